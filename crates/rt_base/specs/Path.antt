@@ -1,0 +1,17 @@
+-- A path's links, and how they lie in arrays of 64 places.
+use Rattle.std.specs.Prelude.{◌≡◌, ℕ, ◌-◌, ◌≤◌, ◌==◌, ◌&&◌, Bool, List, ◌++◌, length, drop, replicate}
+use Rattle.std.specs.Cmp.Lexicographic.{pointwise}
+
+-- 64 places: these numbers, and zeros behind them
+abbrev pub padded : List ℕ → List ℕ
+padded xs = xs ++ replicate (64 - length xs) 0
+
+-- of 64 places the first n are in use, and the others are zero
+pub record IsPadded (n : ℕ) (xs : List ℕ) : Type 0 where
+  pub within : n ≤ 64
+  pub places : length xs ≡ 64
+  pub zeros : drop n xs ≡ replicate (64 - n) 0
+
+-- whether two paths have the same links, each a task's number and a lock's
+abbrev pub has_same_links : List (ℕ × ℕ) → List (ℕ × ℕ) → Bool
+has_same_links = pointwise (λ (a b : ℕ × ℕ). (a.0 == b.0) && (a.1 == b.1))

@@ -1,0 +1,9 @@
+pub mod Lists
+pub mod Least
+pub mod NextEvents
+pub mod Kept
+pub mod Runs
+pub mod Spinning
+pub mod Frame
+pub mod Starts
+pub mod Lowest

@@ -1,0 +1,10 @@
+pub mod Parts
+pub mod State
+pub mod Footprint
+pub mod NextEvent
+pub mod After
+pub mod Run
+pub mod Order
+pub mod Laws
+pub use Rattle.rt_base.specs.Script
+pub use Rattle.rt_base.specs.Kind

@@ -1,0 +1,172 @@
+-- What names stand for, as lines are added.
+use Rattle.std.proofs.Common.{◌≡◌, ℕ, zero, suc, ◌+◌, ◌<◌, ◌≤◌, Bool, true, false, cond, not, ◌&&◌, List, [], ◌∷◌, ◌++◌, length, get_or, set, ltb, eqb, Option, Some, None, refl, sym, ap, subst, ◌∙◌, arith, length-append, length-set}
+use Rattle.std.specs.Prelude.{position, bytes_eq, option_map, String, string_bytes, IsUtf8, IsAscii}
+use Rattle.std.specs.List.{position_or_len, list_all}
+use Rattle.std.specs.Option.{option_or}
+use Rattle.std.specs.HashMap.{HashMap, get_by_text}
+use Rattle.std.specs.Map.{lookup, update}
+use Rattle.std.proofs.lemmas.Bool.{false_from_ne_true}
+use Rattle.std.proofs.lemmas.Bool.Decides.{nat_tests}
+use Rattle.std.proofs.lemmas.List.Sums.{prefix_len-le-length}
+use Rattle.std.proofs.lemmas.List.Folds.{position_or_len_push, position_or_len-set}
+use Rattle.std.proofs.lemmas.List.Quantifiers.{position-Some}
+use Rattle.std.proofs.lemmas.Option.{unwrap_or-slice_get}
+use Rattle.std.proofs.lemmas.Slice.Eq.{bytes_eq-Decides}
+use Rattle.std.proofs.lemmas.Str.{IsUtf8-string_bytes, IsUtf8-from_ascii}
+use Rattle.rt_base.specs.declared.call.Call.{Call}
+use Rattle.rt_base.specs.declared.kind.Kind.TheVariants.{Mutex}
+use Rattle.rt_base.specs.declared.id.TaskId.{TaskId}
+use Rattle.rt_base.specs.declared.id.LockId.{LockId}
+use Rattle.rt_base.specs.Script.{Script, TaskLine, LockLine, task_line}
+use Rattle.rt_script.specs.declared.named.Named.{Named}
+use Rattle.rt_script.specs.declared.named.Named.TheVariants.{Task, Lock}
+use Rattle.rt_script.specs.Adding.{no_lines, with_task, with_lock, with_call, with_pick}
+use Rattle.rt_script.specs.Words.{is_name_byte, is_name}
+use Rattle.rt_script.specs.Names.{the_task, the_lock, named}
+
+-- ---- the place of a name
+
+placed : (n len : ℕ) (b : Bool) → n ≤ len → let at : ℕ = cond (eqb n len) (len + cond b 0 1) n in cond (ltb at (len + 1)) (Some at) None ≡ option_or (cond (ltb n len) (Some n) None) (cond b (Some len) None)
+placed n len true le = grind (arith, nat_tests)
+placed n len false le = grind (arith, nat_tests)
+
+position_push : {X : Type 0} (p : X → Bool) (xs : List X) (y : X) → position p (xs ++ y ∷ []) ≡ option_or (position p xs) (cond (p y) (Some (length xs)) None)
+position_push p xs y =
+    let more : length (xs ++ y ∷ []) ≡ length xs + 1 = omega (arith, length-append xs (y ∷ [])) in
+    rw (position_or_len_push p xs y, more) (placed (position_or_len p xs) (length xs) (p y) (prefix_len-le-length (λ x. not (p x)) xs))
+
+position-set : {X : Type 0} (p : X → Bool) (xs : List X) (i : ℕ) (y d : X) → p y ≡ p (get_or xs i d) → position p (set xs i y) ≡ position p xs
+position-set p xs i y d e = rw (position_or_len-set p xs i y d e, length-set xs i y) refl
+
+-- ---- names of a script
+
+pub named-nothing : (name : List ℕ) → named no_lines name ≡ None
+unfolding named
+named-nothing name = refl
+
+-- what stands for a name that is among the tasks or among the locks
+abbrev either : Option ℕ → Option ℕ → Option Named
+either task lock = option_or (option_map the_task task) (option_map the_lock lock)
+
+added_task : (a b : Option ℕ) (n : ℕ) (e : Bool) → (e ≡ true → either a b ≡ None) → either (option_or a (cond e (Some n) None)) b ≡ cond e (Some (the_task n)) (either a b)
+added_task (Some i) b n true h = let k = h refl in absurd cc
+added_task (Some i) b n false h = refl
+added_task None b n true h = refl
+added_task None b n false h = refl
+
+added_lock : (a b : Option ℕ) (n : ℕ) (e : Bool) → (e ≡ true → either a b ≡ None) → either a (option_or b (cond e (Some n) None)) ≡ cond e (Some (the_lock n)) (either a b)
+added_lock (Some i) b n true h = let k = h refl in absurd cc
+added_lock (Some i) b n false h = refl
+added_lock None (Some j) n true h = let k = h refl in absurd cc
+added_lock None (Some j) n false h = refl
+added_lock None None n true h = refl
+added_lock None None n false h = refl
+
+same_test : (a b : List ℕ) → bytes_eq a b ≡ bytes_eq b a
+same_test a b = grind (arith, bytes_eq-Decides a b, bytes_eq-Decides b a)
+
+pub named-with_task : (s : Script) (line : TaskLine) → named s line.name ≡ None → (name : List ℕ) → named (with_task s line) name ≡ update bytes_eq (named s) line.name (Some (the_task (length s.tasks))) name
+unfolding named
+named-with_task s line new name =
+    let tasks : TaskLine → Bool = λ t. bytes_eq name t.name in
+    let locks : LockLine → Bool = λ l. bytes_eq name l.name in
+    let free : bytes_eq name line.name ≡ true → named s name ≡ None = λ e. rw ((bytes_eq-Decides name line.name).0 e) new in
+    rw (position_push tasks s.tasks line, same_test line.name name) (added_task (position tasks s.tasks) (position locks s.locks) (length s.tasks) (bytes_eq name line.name) free)
+
+pub named-with_lock : (s : Script) (line : LockLine) → named s line.name ≡ None → (name : List ℕ) → named (with_lock s line) name ≡ update bytes_eq (named s) line.name (Some (the_lock (length s.locks))) name
+unfolding named
+named-with_lock s line new name =
+    let tasks : TaskLine → Bool = λ t. bytes_eq name t.name in
+    let locks : LockLine → Bool = λ l. bytes_eq name l.name in
+    let free : bytes_eq name line.name ≡ true → named s name ≡ None = λ e. rw ((bytes_eq-Decides name line.name).0 e) new in
+    rw (position_push locks s.locks line, same_test line.name name) (added_lock (position tasks s.tasks) (position locks s.locks) (length s.locks) (bytes_eq name line.name) free)
+
+pub named-with_call : (s : Script) (t : TaskId) (call : Call) (name : List ℕ) → named (with_call s t call) name ≡ named s name
+unfolding named
+named-with_call s t call name =
+    let test : TaskLine → Bool = λ line. bytes_eq name line.name in
+    let line : TaskLine = task_line s t in
+    let d : TaskLine = record { name = []; own = 0; cpu = record { 0 = 0 }; calls = [] } in
+    let same : test line ≡ test (get_or s.tasks t.0 d) = ap test (unwrap_or-slice_get s.tasks t.0 d) in
+    ap (λ (place : Option ℕ). either place (position (λ (l : LockLine). bytes_eq name l.name) s.locks)) (position-set test s.tasks t.0 (record line { calls = line.calls ++ call ∷ [] }) d same)
+
+pub named-with_pick : (s : Script) (t : TaskId) (name : List ℕ) → named (with_pick s t) name ≡ named s name
+unfolding named
+named-with_pick s t name = refl
+
+task_place : (a b : Option ℕ) (t : TaskId) → either a b ≡ Some (Task t) → a ≡ Some t.0
+task_place (Some i) b t e =
+    let same : record { 0 = i } ≡ t = cc in
+    ap (λ (u : TaskId). Some u.0) same
+task_place None (Some j) t e = absurd cc
+task_place None None t e = absurd cc
+
+lock_place : (a b : Option ℕ) (l : LockId) → either a b ≡ Some (Lock l) → b ≡ Some l.0
+lock_place (Some i) b l e = absurd cc
+lock_place None (Some j) l e =
+    let same : record { 0 = j } ≡ l = cc in
+    ap (λ (u : LockId). Some u.0) same
+lock_place None None l e = absurd cc
+
+pub task_within : (s : Script) (name : List ℕ) (t : TaskId) → named s name ≡ Some (Task t) → t.0 < length s.tasks
+unfolding named
+task_within s name t e =
+    let tasks : TaskLine → Bool = λ t. bytes_eq name t.name in
+    let locks : LockLine → Bool = λ l. bytes_eq name l.name in
+    (position-Some tasks s.tasks t.0 (record { name = []; own = 0; cpu = record { 0 = 0 }; calls = [] }) (task_place (position tasks s.tasks) (position locks s.locks) t e)).0
+
+pub lock_within : (s : Script) (name : List ℕ) (l : LockId) → named s name ≡ Some (Lock l) → l.0 < length s.locks
+unfolding named
+lock_within s name l e =
+    let tasks : TaskLine → Bool = λ t. bytes_eq name t.name in
+    let locks : LockLine → Bool = λ l. bytes_eq name l.name in
+    (position-Some locks s.locks l.0 (record { name = []; kind = Mutex; cell = None }) (lock_place (position tasks s.tasks) (position locks s.locks) l e)).0
+
+-- ---- a map whose keys are texts has no other
+
+no_key : {Y : Type 0} (bytes : List ℕ) (k : String Y) → ¬ (IsUtf8 bytes) → bytes_eq bytes (string_bytes k) ≡ false
+no_key bytes k other = false_from_ne_true _ (λ e. other (subst IsUtf8 (sym ((bytes_eq-Decides bytes (string_bytes k)).0 e)) (IsUtf8-string_bytes k)))
+
+no_entry : {X Y : Type 0} (bytes : List ℕ) (es : List (String Y × X)) → ¬ (IsUtf8 bytes) → lookup (λ k. bytes_eq bytes (string_bytes k)) es ≡ None
+no_entry bytes [] other = refl
+no_entry bytes (e ∷ es) other = rw (no_key bytes e.0 other) (no_entry bytes es other)
+
+pub not_a_key : {X Y S : Type 0} (m : HashMap (String Y) X S) (bytes : List ℕ) → ¬ (IsUtf8 bytes) → get_by_text m bytes ≡ None
+not_a_key m bytes other = no_entry bytes m.entries other
+
+-- ---- a map of names and its script
+
+pub names-with_task : {Y S : Type 0} (old new : HashMap (String Y) Named S) (s : Script) (line : TaskLine) (key : List ℕ) (id : TaskId) → ((name : List ℕ) → get_by_text old name ≡ named s name)
+    → ((name : List ℕ) → get_by_text new name ≡ update bytes_eq (get_by_text old) key (Some (Task id)) name) → key ≡ line.name → id.0 ≡ length s.tasks → named s line.name ≡ None
+    → (name : List ℕ) → get_by_text new name ≡ named (with_task s line) name
+names-with_task old new s line key id before after key-is id-is free name =
+    let same : id ≡ record { 0 = length s.tasks } = ap (λ (i : ℕ). record { 0 = i }) id-is in
+    after name ∙ rw (key-is, same, before name) (sym (named-with_task s line free name))
+
+pub names-with_lock : {Y S : Type 0} (old new : HashMap (String Y) Named S) (s : Script) (line : LockLine) (key : List ℕ) (id : LockId) → ((name : List ℕ) → get_by_text old name ≡ named s name)
+    → ((name : List ℕ) → get_by_text new name ≡ update bytes_eq (get_by_text old) key (Some (Lock id)) name) → key ≡ line.name → id.0 ≡ length s.locks → named s line.name ≡ None
+    → (name : List ℕ) → get_by_text new name ≡ named (with_lock s line) name
+names-with_lock old new s line key id before after key-is id-is free name =
+    let same : id ≡ record { 0 = length s.locks } = ap (λ (i : ℕ). record { 0 = i }) id-is in
+    after name ∙ rw (key-is, same, before name) (sym (named-with_lock s line free name))
+
+-- ---- a name is text
+
+name_byte_fits : (b : ℕ) → is_name_byte b ≡ true → b < 128
+name_byte_fits b e = grind (arith, nat_tests)
+
+first_holds : (a b : Bool) → (a && b) ≡ true → a ≡ true
+first_holds true b e = refl
+first_holds false b e = e
+
+second_holds : (a b : Bool) → (a && b) ≡ true → b ≡ true
+second_holds true b e = e
+second_holds false b e = absurd cc
+
+name_bytes_fit : (bs : List ℕ) → list_all is_name_byte bs ≡ true → IsAscii bs
+name_bytes_fit [] e i = omega arith
+name_bytes_fit (b ∷ bs) e zero = name_byte_fits b (first_holds _ _ e)
+name_bytes_fit (b ∷ bs) e (suc i) = name_bytes_fit bs (second_holds _ _ e) i
+
+pub IsUtf8-from_name : (word : List ℕ) → is_name word ≡ true → IsUtf8 word
+IsUtf8-from_name word e = IsUtf8-from_ascii word (name_bytes_fit word (second_holds _ _ e))

@@ -1,0 +1,72 @@
+-- A text is cut at the first place of a byte.
+use Rattle.std.proofs.Common.{◌≡◌, ℕ, suc, ◌+◌, ◌-◌, ◌<◌, Bool, true, false, cond, List, [], ◌∷◌, length, take, drop, take_all, length-drop, drop-drop, ltb, Option, Some, None, refl, sym, ap, ◌∙◌, arith}
+use Rattle.std.specs.Prelude.{position, ◌==◌, bytes_eq, codes, if◌then◌else◌}
+use Rattle.std.specs.List.{slice_split, onto_first, position_or_len}
+use Rattle.rt_base.specs.Script.{Script}
+use Rattle.rt_script.specs.Words.{◌>>=◌, only_if, lines_of}
+use Rattle.rt_script.specs.Grammar.{is_end, after_line, after_lines, script_of_lines}
+use Rattle.std.proofs.lemmas.Bool.{ltb-true, ltb-false, ne_eqb}
+use Rattle.std.proofs.lemmas.Option.{cond_some}
+use Rattle.std.proofs.lemmas.List.Sums.{fails_before_first}
+use Rattle.std.proofs.lemmas.List.Splits.{slice_split_first, slice_split_none}
+
+cond_none : {A : Type 0} (b : Bool) (x : A) → cond b (Some x) None ≡ None → b ≡ false
+cond_none true x e = absurd cc
+cond_none false x e = refl
+
+pub split_at_none : (p : ℕ → Bool) (xs : List ℕ) → position p xs ≡ None → slice_split p xs ≡ xs ∷ []
+split_at_none p xs e =
+    let past = ltb-false (position_or_len p xs) (length xs) (cond_none (ltb (position_or_len p xs) (length xs)) (position_or_len p xs) e) in
+    slice_split_none p xs (λ k d lt. fails_before_first p xs k d (omega arith))
+
+pub split_at_some : (p : ℕ → Bool) (xs : List ℕ) (i : ℕ) → position p xs ≡ Some i → (i < length xs) × (slice_split p xs ≡ take i xs ∷ slice_split p (drop (i + 1) xs))
+split_at_some p xs i e =
+    let h = cond_some (ltb (position_or_len p xs) (length xs)) (position_or_len p xs) i e in
+    let within = ltb-true (position_or_len p xs) (length xs) h.0 in
+    rw (← h.1) (within, slice_split_first p xs 0 within)
+
+pub split_parts : (p : ℕ → Bool) (xs : List ℕ) (i : ℕ) (front back : List ℕ) → position p xs ≡ Some i → front ≡ take i xs → back ≡ drop i xs → slice_split p xs ≡ front ∷ slice_split p (take (length back - 1) (drop 1 back))
+split_parts p xs i front back e f b =
+    let whole : take (length back - 1) (drop 1 back) ≡ drop 1 back = take_all (length back - 1) (drop 1 back) (omega (arith, length-drop 1 back)) in
+    let rest : drop 1 back ≡ drop (i + 1) xs = rw b (drop-drop 1 i xs) in
+    rw (whole, rest, f) (split_at_some p xs i e).1
+
+-- ---- a text always has a last piece
+
+some_piece : (p : ℕ → Bool) (xs : List ℕ) → (first : List ℕ) × (others : List (List ℕ)) × (slice_split p xs ≡ first ∷ others)
+some_piece p [] = ([], [], refl)
+some_piece p (x ∷ xs) =
+    let next = some_piece p xs in
+    elim (p x) as (λ b. (first : List ℕ) × (others : List (List ℕ)) × (cond b ([] ∷ slice_split p xs) (onto_first x (slice_split p xs)) ≡ first ∷ others)) [
+      | true ↦ ([], slice_split p xs, refl)
+      | false ↦ (x ∷ next.0, next.1, ap (onto_first x) next.2)
+    ]
+
+not_end : (b : Bool) (x : ℕ) (pieces : List (List ℕ)) (first : List ℕ) (others : List (List ℕ)) → pieces ≡ first ∷ others → is_end (cond b ([] ∷ pieces) (onto_first x pieces)) ≡ false
+not_end true x pieces first others e = rw e refl
+not_end false x pieces first others e = rw e refl
+
+pub is_end-lines_of : (bytes : List ℕ) → is_end (lines_of bytes) ≡ (length bytes == 0)
+is_end-lines_of [] = refl
+is_end-lines_of (b ∷ bytes) =
+    let next = some_piece (λ c. c == 10) bytes in
+    not_end (b == 10) b (lines_of bytes) next.0 next.1 next.2 ∙ sym (ne_eqb (suc (length bytes)) 0 (λ e. absurd (omega arith)))
+
+-- ---- line after line
+
+pub after_last_line : (script : Script) (line : List ℕ) → after_lines script (line ∷ []) ≡ None
+unfolding after_lines
+after_last_line script line = last (bytes_eq line (codes "go")) (after_line script line)
+  where
+    last : (b : Bool) (next : Option Script) → (if b then only_if (is_end []) (Some script) else next >>= λ n. None) ≡ None
+    last true next = refl
+    last false None = refl
+    last false (Some n) = refl
+
+pub header_alone : (line : List ℕ) → script_of_lines (line ∷ []) ≡ None
+unfolding after_lines
+header_alone line = alone (bytes_eq line (codes "rtscript 1"))
+  where
+    alone : (b : Bool) → only_if {A = Script} b None ≡ None
+    alone true = refl
+    alone false = refl

@@ -1,0 +1,28 @@
+-- A script with one line more.
+use Rattle.std.specs.Prelude.{[], ◌∷◌, ◌++◌, slice_set}
+use Rattle.rt_base.specs.declared.call.Call.{Call}
+use Rattle.rt_base.specs.declared.id.TaskId.{TaskId}
+use Rattle.rt_base.specs.Script.{Script, TaskLine, LockLine, task_line}
+
+-- one processor, and nothing else
+abbrev pub no_lines : Script
+no_lines = record { cpus = 1; tasks = []; locks = []; picks = [] }
+
+-- with a task behind the others
+abbrev pub with_task : Script → TaskLine → Script
+with_task script line = record script { tasks = script.tasks ++ line ∷ [] }
+
+-- with a lock behind the others
+abbrev pub with_lock : Script → LockLine → Script
+with_lock script line = record script { locks = script.locks ++ line ∷ [] }
+
+-- with a call behind the others of a task
+abbrev pub with_call : Script → TaskId → Call → Script
+with_call script t call = record script { tasks = slice_set script.tasks t.0 (called (task_line script t)) }
+  where
+    called : TaskLine → TaskLine
+    called line = record line { calls = line.calls ++ call ∷ [] }
+
+-- with a pick behind the others
+abbrev pub with_pick : Script → TaskId → Script
+with_pick script t = record script { picks = script.picks ++ t ∷ [] }

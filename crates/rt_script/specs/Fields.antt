@@ -1,0 +1,31 @@
+-- How the fields of a script hold it.
+use Rattle.std.specs.Prelude.{◌≡◌, ℕ, List, [], Option, Some, None}
+use denote.Ref.{Bor}
+use Rattle.rt_script.specs.Words.{words_of}
+use Rattle.rt_base.specs.Script.{Script, all_calls, IsScript}
+use Rattle.rt_script.specs.declared.script.Script.TheInside.{Inside}
+use Rattle.rt_script.specs.declared.draft.Draft.TheInside.{Inside as DraftFields}
+use Rattle.rt_script.specs.Names.{named}
+use Rattle.indexmap.specs.IndexMap.{get_by_text}
+
+-- the script that the fields hold
+abbrev pub script_of_fields : Inside → Script
+script_of_fields s = record { cpus = s.cpus; tasks = s.tasks.items; locks = s.locks.items; picks = s.picks.items }
+
+-- the fields hold a script, and the count of its calls
+pub record AreFields (s : Inside) : Type 0 where
+  pub script : IsScript (script_of_fields s)
+  pub calls : s.all_calls ≡ all_calls (script_of_fields s)
+
+-- the words of what is left of a line
+abbrev pub words_left : Option (Bor (List ℕ)) → List (List ℕ)
+words_left None = []
+words_left (Some rest) = words_of rest.now
+
+-- the script of a draft
+abbrev pub script_of_draft : DraftFields → Script
+script_of_draft d = d.script
+
+-- the map has the names of the script, each with what it stands for
+pub record HasNames (d : DraftFields) : Type 0 where
+  pub each : (name : List ℕ) → get_by_text d.names name ≡ named (script_of_draft d) name

@@ -1,0 +1,44 @@
+-- What names stand for.
+use Rattle.std.specs.Prelude.{ℕ, ◌&&◌, List, Option, Some, None, option_map, is_none, position, bytes_eq}
+use Rattle.std.specs.Option.{option_or}
+use Rattle.rt_base.specs.declared.id.TaskId.{TaskId}
+use Rattle.rt_base.specs.declared.id.LockId.{LockId}
+use Rattle.rt_base.specs.Script.{Script, TaskLine, LockLine}
+use Rattle.rt_script.specs.declared.named.Named.{Named}
+use Rattle.rt_script.specs.declared.named.Named.TheVariants.{Task, Lock}
+use Rattle.rt_script.specs.Words.{only_if, is_name}
+
+-- the task of a number, and the lock of a number
+abbrev pub the_task : ℕ → Named
+the_task i = Task (record { 0 = i })
+
+abbrev pub the_lock : ℕ → Named
+the_lock i = Lock (record { 0 = i })
+
+-- the task or the lock of that name
+unfoldable pub named : Script → List ℕ → Option Named
+named script name = option_or (option_map the_task (position (λ (t : TaskLine). bytes_eq name t.name) script.tasks)) (option_map the_lock (position (λ (l : LockLine). bytes_eq name l.name) script.locks))
+
+-- the task among these
+abbrev pub only_task : Option Named → Option TaskId
+only_task (Some (Task t)) = Some t
+only_task (Some (Lock l)) = None
+only_task None = None
+
+-- the lock among these
+abbrev pub only_lock : Option Named → Option LockId
+only_lock (Some (Lock l)) = Some l
+only_lock (Some (Task t)) = None
+only_lock None = None
+
+-- the task of that name
+abbrev pub task_named : Script → List ℕ → Option TaskId
+task_named script name = only_task (named script name)
+
+-- the lock of that name
+abbrev pub lock_named : Script → List ℕ → Option LockId
+lock_named script name = only_lock (named script name)
+
+-- the word, where it has the shape of a name and stands for nothing yet
+abbrev pub new_name : Script → List ℕ → Option (List ℕ)
+new_name script word = only_if (is_name word && is_none (named script word)) (Some word)

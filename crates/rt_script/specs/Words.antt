@@ -1,0 +1,53 @@
+-- The lines of a text, the words of a line, and what words spell.
+use Rattle.std.specs.Prelude.{ℕ, Bool, ◌&&◌, ◌||◌, List, [], ◌∷◌, length, Option, Some, None, option_and_then, if◌then◌else◌, slice_index, ◌==◌, nat_lt, nat_le, bytes_eq, decimal}
+use Rattle.std.specs.List.{slice_split, list_all}
+use Rattle.std.specs.Char.{is_ascii_digit, is_ascii_lowercase}
+use Rattle.std.specs.Str.Parse.{digits_value}
+
+-- a step that needs what another gives
+infixl 10 ◌>>=◌
+abbrev pub ◌>>=◌ : {A B : Type 0} → Option A → (A → Option B) → Option B
+o >>= f = option_and_then f o
+
+-- nothing, unless the test is passed
+abbrev pub only_if : {A : Type 0} → Bool → Option A → Option A
+only_if passed o = if passed then o else None
+
+-- what stands between the line feeds; the last is what stands behind the last one
+abbrev pub lines_of : List ℕ → List (List ℕ)
+lines_of text = slice_split (λ b. b == 10) text
+
+-- what stands between the spaces
+abbrev pub words_of : List ℕ → List (List ℕ)
+words_of line = slice_split (λ b. b == 32) line
+
+-- the word, where it is the only one
+abbrev pub one : List (List ℕ) → Option (List ℕ)
+one (a ∷ []) = Some a
+one _ = None
+
+-- the words, where they are two
+abbrev pub two : List (List ℕ) → Option (List ℕ × List ℕ)
+two (a ∷ b ∷ []) = Some (a, b)
+two _ = None
+
+-- the words, where they are three
+abbrev pub three : List (List ℕ) → Option (List ℕ × List ℕ × List ℕ)
+three (a ∷ b ∷ c ∷ []) = Some (a, b, c)
+three _ = None
+
+-- the number whose decimal digits the word is
+abbrev pub number_of : List ℕ → Option ℕ
+number_of word = only_if (bytes_eq (decimal (digits_value 10 word)) word) (Some (digits_value 10 word))
+
+-- the same, where it is at most that
+unfoldable pub number_upto : ℕ → List ℕ → Option ℕ
+number_upto most word = number_of word >>= λ n. only_if (nat_le n most) (Some n)
+
+-- a letter a to z, a digit or `_`
+abbrev pub is_name_byte : ℕ → Bool
+is_name_byte b = is_ascii_lowercase b || is_ascii_digit b || b == 95
+
+-- 1 to 16 such bytes, with a letter first
+abbrev pub is_name : List ℕ → Bool
+is_name word = nat_lt 0 (length word) && nat_le (length word) 16 && is_ascii_lowercase (slice_index word 0) && list_all is_name_byte word

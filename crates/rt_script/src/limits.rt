@@ -1,0 +1,19 @@
+//! How much a script may have.
+
+/// The most tasks.
+pub(crate) const MAX_TASKS: usize = 1;
+
+/// The most locks.
+pub(crate) const MAX_LOCKS: usize = 1;
+
+/// The most calls of all tasks together.
+pub(crate) const MAX_CALLS: u32 = 16384;
+
+/// The most picks.
+pub(crate) const MAX_PICKS: usize = 65536;
+
+/// The greatest priority.
+pub(crate) const MAX_PRIO: u8 = 139;
+
+/// The greatest processor.
+pub(crate) const MAX_CPU: u8 = 7;

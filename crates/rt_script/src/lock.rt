@@ -1,0 +1,56 @@
+ghost use Rattle.std.specs.Prelude.{◌≡◌, IfOk};
+ghost use Rattle.std.specs.String.{string_bytes};
+
+use rt_base::{Cpu, Kind};
+use std::alloc::AllocError;
+use std::marker::Model;
+
+/// A lock: its line, and for a cell of a local lock its processor.
+#[derive(Drop)]
+pub(crate) struct Lock {
+    name: String,
+    kind: Kind,
+    cell: Option<Cpu>,
+}
+
+impl Model for Lock {
+    ghost use Rattle.std.specs.String.{string_bytes};
+    ghost use Rattle.rt_base.specs.Script.{LockLine};
+
+    ghost Value = { LockLine };
+
+    ghost view = { λ l. record { name = string_bytes l.name; kind = l.kind; cell = l.cell } };
+}
+
+impl Lock {
+    pub(crate) fn new(name: String, kind: Kind, cell: Option<Cpu>) -> Lock
+        ensures { result ≡ record { name = string_bytes name; kind = kind; cell = cell } }
+    {
+        Lock { name, kind, cell }
+    }
+
+    pub(crate) fn name(&self) -> &str
+        ensures { result.now ≡ self.now.name }
+    {
+        self.name.as_str()
+    }
+
+    /// The name as a text of its own.
+    pub(crate) fn copy_name(&self) -> Result<String, AllocError>
+        ensures { IfOk result (λ name. string_bytes name ≡ self.now.name) }
+    {
+        self.name.clone()
+    }
+
+    pub(crate) fn kind(&self) -> Kind
+        ensures { result ≡ self.now.kind }
+    {
+        self.kind
+    }
+
+    pub(crate) fn cell(&self) -> Option<Cpu>
+        ensures { result ≡ self.now.cell }
+    {
+        self.cell
+    }
+}

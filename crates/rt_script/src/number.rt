@@ -1,0 +1,42 @@
+ghost use Rattle.std.specs.Prelude.{◌≡◌, ◌<◌, ◌≤◌, ◌↔◌, IsTrue, IfSome, length, slice_index};
+ghost use Rattle.rt_script.specs.Words.{number_upto};
+ghost use Rattle.rt_script.specs.Digits.{digits_upto};
+
+/// The number of at most `most` that digits write, leading zeros among them.
+fn digits(word: &[u8], most: u8) -> Option<u8>
+    ensures value { result ≡ digits_upto most 0 word.now }
+    ensures within { IfSome result (λ n. n ≤ most) }
+{
+    let mut number: u32 = 0;
+    for b in word {
+        if !b.is_ascii_digit() {
+            return None;
+        }
+        number = number * 10 + (*b - b'0') as u32;
+        if number > most as u32 {
+            return None;
+        }
+    }
+    Some(number as u8)
+}
+
+/// Whether a zero stands before other digits.
+fn leads_with_zero(word: &[u8]) -> bool
+    ensures { IsTrue result ↔ (slice_index word.now 0 ≡ 48) × (1 < length word.now) }
+{
+    word.len() > 1 && word[0] == b'0'
+}
+
+/// The number of at most `most` whose decimal digits the word is.
+pub(crate) fn number(word: &[u8], most: u8) -> Option<u8>
+    ensures value { result ≡ number_upto most word.now }
+    ensures within { IfSome result (λ n. n ≤ most) }
+{
+    if word.is_empty() {
+        return None;
+    }
+    if leads_with_zero(word) {
+        return None;
+    }
+    digits(word, most)
+}

@@ -1,0 +1,248 @@
+ghost use Rattle.std.specs.Prelude.{◌≡◌, ℕ, ◌<◌, ◌≤◌, List, [], ◌∷◌, ◌++◌, length, None, OnOk, OnErr};
+ghost use Rattle.rt_base.specs.Script.{task_line, lock_line, all_calls, budget_of, IsScript, IsTaskOf, IsCallOf};
+ghost use Rattle.rt_script.specs.Grammar.{takes_task, takes_lock, takes_call, takes_pick};
+ghost use Rattle.rt_script.specs.Adding.{no_lines, with_task, with_lock, with_call, with_pick};
+
+use crate::limits::{MAX_CALLS, MAX_LOCKS, MAX_PICKS, MAX_TASKS};
+use crate::lock::Lock;
+use crate::task::Task;
+use rt_base::{Call, Cpu, Kind, LockId, Prio, TaskId};
+use std::alloc::{AllocError, Global};
+use std::marker::Model;
+
+/// A lock script: tasks with their calls, locks, and the picks that a replay begins with.
+#[derive(Drop)]
+pub struct Script {
+    cpus: u8,
+    tasks: Vec<Task>,
+    locks: Vec<Lock>,
+    picks: Vec<TaskId>,
+    all_calls: u32,
+}
+
+impl Model for Script {
+    ghost use Rattle.std.specs.Prelude.{◌≡◌};
+    ghost use Rattle.rt_base.specs.Script as base;
+
+    ghost Value = { base.Script };
+
+    ghost use Rattle.rt_script.specs.Fields.{script_of_fields, AreFields};
+
+    ghost view = { script_of_fields };
+
+    ghost invariant = { AreFields };
+}
+
+impl Script {
+    /// The number of processors.
+    pub fn cpus(&self) -> u8
+        ensures number { result ≡ self.now.cpus }
+        ensures valid { IsScript self.now }
+    {
+        self.cpus
+    }
+
+    /// The number of tasks.
+    pub fn tasks(&self) -> u32
+        ensures number { result ≡ length self.now.tasks }
+        ensures valid { IsScript self.now }
+    {
+        self.tasks.len() as u32
+    }
+
+    /// The number of locks, where a local lock counts once for each processor.
+    pub fn locks(&self) -> u32
+        ensures number { result ≡ length self.now.locks }
+        ensures valid { IsScript self.now }
+    {
+        self.locks.len() as u32
+    }
+
+    /// The number of calls of all tasks together.
+    pub fn all_calls(&self) -> u32
+        ensures number { result ≡ all_calls self.now }
+        ensures valid { IsScript self.now }
+    {
+        self.all_calls
+    }
+
+    /// The tasks that the picks name, in order.
+    pub fn picks(&self) -> &[TaskId]
+        ensures value { result.now ≡ self.now.picks }
+        ensures valid { IsScript self.now }
+    {
+        self.picks.as_slice()
+    }
+
+    /// The task of a number.
+    fn task(&self, t: TaskId) -> &Task
+        requires { t.0 < length self.now.tasks }
+        ensures { result.now ≡ task_line self.now t }
+    {
+        &self.tasks[t.0 as usize]
+    }
+
+    /// The lock of a number.
+    fn lock(&self, l: LockId) -> &Lock
+        requires { l.0 < length self.now.locks }
+        ensures { result.now ≡ lock_line self.now l }
+    {
+        &self.locks[l.0 as usize]
+    }
+
+    /// The priority of a task's line.
+    pub fn own(&self, t: TaskId) -> Prio
+        requires { t.0 < length self.now.tasks }
+        ensures { result ≡ (task_line self.now t).own }
+    {
+        self.task(t).own()
+    }
+
+    /// The processor on which a task starts.
+    pub fn cpu(&self, t: TaskId) -> Cpu
+        requires { t.0 < length self.now.tasks }
+        ensures { result ≡ (task_line self.now t).cpu }
+    {
+        self.task(t).cpu()
+    }
+
+    /// The calls of a task, in order.
+    pub fn calls(&self, t: TaskId) -> &[Call]
+        requires { t.0 < length self.now.tasks }
+        ensures { result.now ≡ (task_line self.now t).calls }
+    {
+        self.task(t).calls()
+    }
+
+    /// The name of a task.
+    pub fn task_name(&self, t: TaskId) -> &str
+        requires { t.0 < length self.now.tasks }
+        ensures { result.now ≡ (task_line self.now t).name }
+    {
+        self.task(t).name()
+    }
+
+    /// The kind of a lock.
+    pub fn kind(&self, l: LockId) -> Kind
+        requires { l.0 < length self.now.locks }
+        ensures { result ≡ (lock_line self.now l).kind }
+    {
+        self.lock(l).kind()
+    }
+
+    /// The name of a lock. The cells of a local lock have one name.
+    pub fn lock_name(&self, l: LockId) -> &str
+        requires { l.0 < length self.now.locks }
+        ensures { result.now ≡ (lock_line self.now l).name }
+    {
+        self.lock(l).name()
+    }
+
+    /// The processor of a local lock's cell, and `None` for the other kinds.
+    pub fn cell_of(&self, l: LockId) -> Option<Cpu>
+        requires { l.0 < length self.now.locks }
+        ensures { result ≡ (lock_line self.now l).cell }
+    {
+        self.lock(l).cell()
+    }
+
+    /// How many events a replay in the stated order gets where no number is asked for.
+    pub fn budget(&self) -> u64
+        ensures { result ≡ budget_of self.now }
+    {
+        let tasks = self.tasks.len() as u64;
+        16 * (tasks + 2) * (tasks + self.all_calls as u64 + 2)
+    }
+
+    /// A script of one processor, without tasks and locks.
+    pub(crate) fn new(alloc: Global) -> Script
+        ensures { result ≡ no_lines }
+    {
+        Script {
+            cpus: 1,
+            tasks: Vec::new(alloc),
+            locks: Vec::new(alloc),
+            picks: Vec::new(alloc),
+            all_calls: 0,
+        }
+    }
+
+    /// Adds a task behind the others. An `Err` changes nothing.
+    pub(crate) fn push_task(&mut self, task: Task) -> Result<(), AllocError>
+        requires room { length self.old.tasks < MAX_TASKS }
+        requires fits { IsTaskOf self.old task }
+        requires uncalled { task.calls ≡ [] }
+        ensures ok { OnOk result (self.new ≡ with_task self.old task) }
+        ensures err { OnErr result (self.new ≡ self.old) }
+    {
+        self.tasks.push(task)?;
+        Ok(())
+    }
+
+    /// Adds a lock behind the others. An `Err` changes nothing.
+    pub(crate) fn push_lock(&mut self, lock: Lock) -> Result<(), AllocError>
+        requires room { length self.old.locks < MAX_LOCKS }
+        requires name { length lock.name ≤ 16 }
+        requires one_cell { lock.cell ≡ None }
+        ensures ok { OnOk result (self.new ≡ with_lock self.old lock) }
+        ensures err { OnErr result (self.new ≡ self.old) }
+    {
+        self.locks.push(lock)?;
+        Ok(())
+    }
+
+    /// Adds a call behind the others of a task. An `Err` changes nothing.
+    pub(crate) fn push_call(&mut self, t: TaskId, call: Call) -> Result<(), AllocError>
+        requires task { t.0 < length self.old.tasks }
+        requires room { all_calls self.old < MAX_CALLS }
+        requires fits { IsCallOf self.old call }
+        ensures ok { OnOk result (self.new ≡ with_call self.old t call) }
+        ensures err { OnErr result (self.new ≡ self.old) }
+    {
+        self.tasks[t.0 as usize].push_call(call)?;
+        self.all_calls += 1;
+        Ok(())
+    }
+
+    /// Adds a pick behind the others. An `Err` changes nothing.
+    pub(crate) fn push_pick(&mut self, t: TaskId) -> Result<(), AllocError>
+        requires task { t.0 < length self.old.tasks }
+        requires room { length self.old.picks < MAX_PICKS }
+        ensures ok { OnOk result (self.new ≡ with_pick self.old t) }
+        ensures err { OnErr result (self.new ≡ self.old) }
+    {
+        self.picks.push(t)?;
+        Ok(())
+    }
+
+    /// Whether a task line may come next.
+    pub(crate) fn takes_task(&self) -> bool
+        ensures { result ≡ takes_task self.now }
+    {
+        self.locks.is_empty()
+            && self.all_calls == 0
+            && self.picks.is_empty()
+            && self.tasks.len() < MAX_TASKS
+    }
+
+    /// Whether a lock line may come next.
+    pub(crate) fn takes_lock(&self) -> bool
+        ensures { result ≡ takes_lock self.now }
+    {
+        self.all_calls == 0 && self.picks.is_empty() && self.locks.len() < MAX_LOCKS
+    }
+
+    /// Whether a call line may come next.
+    pub(crate) fn takes_call(&self) -> bool
+        ensures { result ≡ takes_call self.now }
+    {
+        self.picks.is_empty() && self.all_calls < MAX_CALLS
+    }
+
+    /// Whether a pick line may come next.
+    pub(crate) fn takes_pick(&self) -> bool
+        ensures { result ≡ takes_pick self.now }
+    {
+        self.picks.len() < MAX_PICKS
+    }
+}

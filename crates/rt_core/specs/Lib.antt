@@ -1,0 +1,15 @@
+pub mod Words
+pub mod Line
+pub mod Report
+pub mod Text
+pub mod Made
+pub mod Advance
+pub use Rattle.rt_base.specs.Script
+pub use Rattle.rt_model.specs.Parts
+pub use Rattle.rt_model.specs.State
+pub use Rattle.rt_model.specs.Footprint
+pub use Rattle.rt_model.specs.NextEvent
+pub use Rattle.rt_model.specs.After
+pub use Rattle.rt_model.specs.Run
+pub use Rattle.rt_model.specs.Order
+pub use Rattle.rt_model.specs.Laws

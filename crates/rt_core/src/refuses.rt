@@ -1,0 +1,56 @@
+ghost use Rattle.std.specs.Prelude.{◌≡◌};
+ghost use Rattle.rt_model.specs.NextEvent.{refusal};
+
+use rt_base::{Call, Kind, Reply};
+
+/// The answer that a call gets from what its own thread knows, where there is one. `spinning_holds` is
+/// how many locks of a spinning kind the thread holds, `holds_it` whether it has the hold that the call
+/// is about, and `migration` its migration count. Sleeping in an ordinary state inside a spinning kind
+/// is what `___might_sleep` warns of.
+pub fn refuses(
+    call: Call,
+    kind: Option<Kind>,
+    spinning_holds: u32,
+    holds_it: bool,
+    migration: u32,
+) -> Option<Reply>
+    ensures { result ≡ refusal call kind spinning_holds holds_it migration }
+{
+    let nested = spinning_holds > 0;
+    let sleeps = match call {
+        Call::Lock(_) | Call::LockInt(_) | Call::Schedule => true,
+        Call::Read(_) | Call::Write(_) => kind == Some(Kind::RwSem),
+        _ => false,
+    };
+    if nested && sleeps {
+        return Some(Reply::Nesting);
+    }
+    match call {
+        Call::Lock(_)
+        | Call::LockInt(_)
+        | Call::Spin(_)
+        | Call::Local(_)
+        | Call::Read(_)
+        | Call::Write(_) => {
+            if holds_it {
+                Some(Reply::Deadlock)
+            } else {
+                None
+            }
+        }
+        Call::Unlock(_)
+        | Call::Unspin(_)
+        | Call::Unread(_)
+        | Call::Unwrite(_)
+        | Call::Downgrade(_)
+        | Call::Unlocal(_) => {
+            if holds_it {
+                None
+            } else {
+                Some(Reply::NotOwner)
+            }
+        }
+        Call::Move(_) if migration > 0 => Some(Reply::Pinned),
+        _ => None,
+    }
+}

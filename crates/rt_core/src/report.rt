@@ -1,0 +1,190 @@
+ghost use Rattle.std.specs.Prelude.{◌≡◌, ◌+◌, ◌*◌, ◌<◌, ◌≤◌, ◌∷◌, ◌++◌, length, map, vec_len, All, IfSome};
+ghost use Rattle.std.specs.Vec.{vec_capacity};
+ghost use Rattle.rt_core.specs.Words.{spaced};
+ghost use Rattle.rt_core.specs.Report.{priority_words, progress_words, note_words, task_line_of, owner_words, reader_words, row_word, lock_line_of, IsNoteOf};
+ghost use Rattle.rt_core.specs.Text.{end_line};
+
+use crate::append::{append, push_byte, push_digits, push_number, push_word};
+use crate::lock_cell::LockCell;
+use crate::note::Note;
+use crate::task_cell::TaskCell;
+use crate::thread::Thread;
+use crate::words::{
+    WORD_ROOM, bit_text, end_text, push_lock, push_task, push_task_or_dash, state_text,
+};
+use rt_base::{Ended, Kind, LockId, TaskId};
+use rt_model::{ReaderCell, Row};
+use rt_script::Script;
+
+/// Writes the line between a journal and its report, which tells how the run ended.
+pub fn write_end_line(ended: Ended, out: &mut Vec<u8>)
+    requires room { vec_len out.old + 4096 ≤ vec_capacity out.old }
+    ensures text { out.new.items ≡ out.old.items ++ end_line ended }
+    ensures short { length (end_line ended) < 4096 }
+    ensures capacity { vec_capacity out.old ≤ vec_capacity out.new }
+{
+    append(out, b"end");
+    push_word(out, end_text(ended));
+    push_byte(out, b'\n');
+}
+
+/// Writes a task's line of the report, of less than 4,096 bytes.
+pub(crate) fn write_task_line(
+    script: &Script,
+    t: TaskId,
+    cell: &TaskCell,
+    thread: &Thread,
+    note: Note,
+    out: &mut Vec<u8>,
+)
+    requires task { t.0 < length script.now.tasks }
+    requires note { IsNoteOf script.now note }
+    requires room { vec_len out.old + 4096 ≤ vec_capacity out.old }
+    ensures text { out.new.items ≡ out.old.items ++ task_line_of script.now t cell.now thread.now note }
+    ensures short { length (task_line_of script.now t cell.now thread.now note) < 4096 }
+    ensures capacity { vec_capacity out.old ≤ vec_capacity out.new }
+{
+    append(out, b"task");
+    push_priorities(script, t, cell, out);
+    push_progress(cell, thread, out);
+    push_note(script, note, out);
+    push_byte(out, b'\n');
+}
+
+// Appends a task's name, its own and its effective priority.
+fn push_priorities(script: &Script, t: TaskId, cell: &TaskCell, out: &mut Vec<u8>)
+    requires task { t.0 < length script.now.tasks }
+    requires room { vec_len out.old + 3 * WORD_ROOM ≤ vec_capacity out.old }
+    ensures text { out.new.items ≡ out.old.items ++ spaced (priority_words script.now t cell.now) }
+    ensures grows { vec_len out.new ≤ vec_len out.old + 3 * WORD_ROOM }
+    ensures capacity { vec_capacity out.old ≤ vec_capacity out.new }
+{
+    push_task(script, t, out);
+    push_number(out, cell.own().get() as u64);
+    push_number(out, cell.effective().get() as u64);
+}
+
+// Appends a task's states, and how many of its calls are answered.
+fn push_progress(cell: &TaskCell, thread: &Thread, out: &mut Vec<u8>)
+    requires room { vec_len out.old + 3 * WORD_ROOM ≤ vec_capacity out.old }
+    ensures text { out.new.items ≡ out.old.items ++ spaced (progress_words cell.now thread.now) }
+    ensures grows { vec_len out.new ≤ vec_len out.old + 3 * WORD_ROOM }
+    ensures capacity { vec_capacity out.old ≤ vec_capacity out.new }
+{
+    push_word(out, state_text(cell.state()));
+    push_word(out, state_text(cell.saved()));
+    push_number(out, thread.answered() as u64);
+    push_byte(out, b'/');
+    push_digits(out, thread.calls() as u64);
+}
+
+// Appends where a task stands.
+fn push_note(script: &Script, note: Note, out: &mut Vec<u8>)
+    requires note { IsNoteOf script.now note }
+    requires room { vec_len out.old + 3 * WORD_ROOM ≤ vec_capacity out.old }
+    ensures text { out.new.items ≡ out.old.items ++ spaced (note_words script.now note) }
+    ensures grows { vec_len out.new ≤ vec_len out.old + 3 * WORD_ROOM }
+    ensures capacity { vec_capacity out.old ≤ vec_capacity out.new }
+{
+    match note {
+        Note::End => push_word(out, "end"),
+        Note::Walk(cursor) => {
+            push_word(out, "walk");
+            push_task(script, cursor, out);
+        }
+        Note::Confirm => push_word(out, "confirm"),
+        Note::Ready => push_word(out, "ready"),
+        Note::Lock(l, key) => {
+            push_word(out, "lock");
+            push_lock(script, l, out);
+            push_number(out, key.get() as u64);
+        }
+        Note::Readers(l) => {
+            push_word(out, "readers");
+            push_lock(script, l, out);
+        }
+        Note::Wake => push_word(out, "wake"),
+    }
+}
+
+/// Writes a lock's line of the report, of less than 4,096 bytes.
+pub(crate) fn write_lock_line(
+    script: &Script,
+    l: LockId,
+    cell: &LockCell,
+    readers: ReaderCell,
+    out: &mut Vec<u8>,
+)
+    requires lock { l.0 < length script.now.locks }
+    requires owner { IfSome cell.now.owner (λ t. t.0 < length script.now.tasks) }
+    requires rows { All (λ row. row.who < length script.now.tasks) cell.now.rows }
+    requires few { length cell.now.rows ≤ 64 }
+    requires room { vec_len out.old + 4096 ≤ vec_capacity out.old }
+    ensures text { out.new.items ≡ out.old.items ++ lock_line_of script.now l cell.now readers }
+    ensures short { length (lock_line_of script.now l cell.now readers) < 4096 }
+    ensures capacity { vec_capacity out.old ≤ vec_capacity out.new }
+{
+    append(out, b"lock");
+    push_owner(script, l, cell, out);
+    push_readers(cell.kind(), readers, out);
+    push_rows(script, cell.rows(), out);
+    push_byte(out, b'\n');
+}
+
+// Appends a lock's name, its owner and its waiters bit.
+fn push_owner(script: &Script, l: LockId, cell: &LockCell, out: &mut Vec<u8>)
+    requires lock { l.0 < length script.now.locks }
+    requires owner { IfSome cell.now.owner (λ t. t.0 < length script.now.tasks) }
+    requires room { vec_len out.old + 3 * WORD_ROOM ≤ vec_capacity out.old }
+    ensures text { out.new.items ≡ out.old.items ++ spaced (owner_words script.now l cell.now) }
+    ensures grows { vec_len out.new ≤ vec_len out.old + 3 * WORD_ROOM }
+    ensures capacity { vec_capacity out.old ≤ vec_capacity out.new }
+{
+    push_lock(script, l, out);
+    push_task_or_dash(script, cell.owner(), out);
+    push_word(out, bit_text(cell.bit()));
+}
+
+// Appends the reader part of a reader/writer lock, and nothing for another kind.
+fn push_readers(kind: Kind, readers: ReaderCell, out: &mut Vec<u8>)
+    requires room { vec_len out.old + 3 * WORD_ROOM ≤ vec_capacity out.old }
+    ensures text { out.new.items ≡ out.old.items ++ spaced (reader_words kind readers) }
+    ensures grows { vec_len out.new ≤ vec_len out.old + 3 * WORD_ROOM }
+    ensures capacity { vec_capacity out.old ≤ vec_capacity out.new }
+{
+    match kind {
+        Kind::RwLock | Kind::RwSem => {
+            push_word(out, bit_text(readers.bias));
+            push_word(out, bit_text(readers.writer));
+            push_number(out, readers.count as u64);
+        }
+        Kind::Mutex | Kind::Spin | Kind::Local => {}
+    }
+}
+
+// Appends the waiters in order, each with its key.
+fn push_rows(script: &Script, rows: &[Row], out: &mut Vec<u8>)
+    requires rows { All (λ row. row.who < length script.now.tasks) rows.now }
+    requires few { length rows.now ≤ 64 }
+    requires room { vec_len out.old + 64 * WORD_ROOM ≤ vec_capacity out.old }
+    ensures text { out.new.items ≡ out.old.items ++ spaced (map (row_word script.now) rows.now) }
+    ensures grows { vec_len out.new ≤ vec_len out.old + 64 * WORD_ROOM }
+    ensures capacity { vec_capacity out.old ≤ vec_capacity out.new }
+{
+    for row in rows {
+        push_row(script, row, out);
+    }
+}
+
+// Appends a waiter and its key.
+fn push_row(script: &Script, row: &Row, out: &mut Vec<u8>)
+    requires task { row.now.who < length script.now.tasks }
+    requires room { vec_len out.old + WORD_ROOM ≤ vec_capacity out.old }
+    ensures text { out.new.items ≡ out.old.items ++ 32 ∷ row_word script.now row.now }
+    ensures grows { vec_len out.new ≤ vec_len out.old + WORD_ROOM }
+    ensures capacity { vec_capacity out.old ≤ vec_capacity out.new }
+{
+    push_task(script, TaskId(row.who), out);
+    push_byte(out, b':');
+    push_digits(out, row.key);
+}

@@ -1,0 +1,171 @@
+ghost use Rattle.std.specs.Prelude.{◌≡◌, ◌+◌, ◌<◌, ◌≤◌, ◌∷◌, ◌++◌, length, vec_len, Option, IfSome};
+ghost use Rattle.std.specs.Vec.{vec_capacity};
+ghost use Rattle.rt_core.specs.Words.{kind_word, reply_word, state_word, end_word, bit_word, task_word, cell_word, lock_word};
+ghost use Rattle.rt_base.specs.Script.{lock_line};
+ghost use Rattle.rt_core.specs.Line.{task_or_dash};
+
+use crate::append::{append, push_byte, push_digits, push_word};
+use rt_base::{Cpu, Ended, LockId, Reply, TaskId, TaskState};
+use rt_model::EventKind;
+use rt_script::Script;
+
+// The most bytes of a word and the space before it.
+pub(crate) const WORD_ROOM: usize = 48;
+
+// The word for a kind of event.
+pub(crate) fn kind_text(kind: EventKind) -> &'static str
+    ensures word { result.now ≡ kind_word kind }
+    ensures short { length result.now ≤ 16 }
+{
+    match kind {
+        EventKind::Fast => "fast",
+        EventKind::Free => "free",
+        EventKind::Mark => "mark",
+        EventKind::Take => "take",
+        EventKind::Wait => "wait",
+        EventKind::Walk => "walk",
+        EventKind::WalkEnd => "walkend",
+        EventKind::Restart => "restart",
+        EventKind::Cycle => "cycle",
+        EventKind::Again => "again",
+        EventKind::Leave => "leave",
+        EventKind::Give => "give",
+        EventKind::RIn => "rin",
+        EventKind::ROut => "rout",
+        EventKind::Unbias => "unbias",
+        EventKind::WTake => "wtake",
+        EventKind::WSleep => "wsleep",
+        EventKind::WOpen => "wopen",
+        EventKind::WWake => "wwake",
+        EventKind::Busy => "busy",
+        EventKind::State => "state",
+        EventKind::Sched => "sched",
+        EventKind::Wake => "wake",
+        EventKind::SetPrio => "setprio",
+        EventKind::Own => "own",
+    }
+}
+
+// The word for an answer.
+pub(crate) fn reply_text(reply: Reply) -> &'static str
+    ensures word { result.now ≡ reply_word reply }
+    ensures short { length result.now ≤ 16 }
+{
+    match reply {
+        Reply::Got => "got",
+        Reply::Busy => "busy",
+        Reply::Deadlock => "deadlock",
+        Reply::Interrupted => "interrupted",
+        Reply::NotOwner => "notowner",
+        Reply::Nesting => "nesting",
+        Reply::Pinned => "pinned",
+        Reply::Woke => "woke",
+        Reply::Missed => "missed",
+        Reply::Done => "done",
+    }
+}
+
+// The letter for a state.
+pub(crate) fn state_text(state: TaskState) -> &'static str
+    ensures word { result.now ≡ state_word state }
+    ensures short { length result.now ≤ 16 }
+{
+    match state {
+        TaskState::Running => "R",
+        TaskState::Interruptible => "S",
+        TaskState::Uninterruptible => "D",
+        TaskState::LockWait => "L",
+    }
+}
+
+// The word for how a run ended.
+pub(crate) fn end_text(ended: Ended) -> &'static str
+    ensures word { result.now ≡ end_word ended }
+    ensures short { length result.now ≤ 16 }
+{
+    match ended {
+        Ended::Done => "done",
+        Ended::Stuck => "stuck",
+        Ended::Limit => "limit",
+    }
+}
+
+// A bit as a digit.
+pub(crate) fn bit_text(bit: bool) -> &'static str
+    ensures word { result.now ≡ bit_word bit }
+    ensures short { length result.now ≤ 16 }
+{
+    if bit { "1" } else { "0" }
+}
+
+// The name of a task, which has at most 16 bytes.
+pub(crate) fn task_text(script: &Script, t: TaskId) -> &str
+    requires { t.0 < length script.now.tasks }
+    ensures word { result.now ≡ task_word script.now t }
+    ensures short { length result.now ≤ 16 }
+{
+    let named = t.0 < script.tasks();
+    prove!(named);
+    script.task_name(t)
+}
+
+// Appends a space and the name of a task.
+pub(crate) fn push_task(script: &Script, t: TaskId, out: &mut Vec<u8>)
+    requires task { t.0 < length script.now.tasks }
+    requires room { vec_len out.old + WORD_ROOM ≤ vec_capacity out.old }
+    ensures text { out.new.items ≡ out.old.items ++ 32 ∷ task_word script.now t }
+    ensures grows { vec_len out.new ≤ vec_len out.old + 17 }
+    ensures capacity { vec_capacity out.old ≤ vec_capacity out.new }
+{
+    push_word(out, task_text(script, t));
+}
+
+// Appends a space and the name of a task, or a dash where there is none.
+pub(crate) fn push_task_or_dash(script: &Script, t: Option<TaskId>, out: &mut Vec<u8>)
+    requires task { IfSome t (λ t. t.0 < length script.now.tasks) }
+    requires room { vec_len out.old + WORD_ROOM ≤ vec_capacity out.old }
+    ensures text { out.new.items ≡ out.old.items ++ 32 ∷ task_or_dash script.now t }
+    ensures grows { vec_len out.new ≤ vec_len out.old + WORD_ROOM }
+    ensures capacity { vec_capacity out.old ≤ vec_capacity out.new }
+{
+    match t {
+        Some(t) => push_task(script, t, out),
+        None => push_word(out, "-"),
+    }
+}
+
+// The name of a lock, which has at most 16 bytes.
+fn lock_text(script: &Script, l: LockId) -> &str
+    requires { l.0 < length script.now.locks }
+    ensures name { result.now ≡ (lock_line script.now l).name }
+    ensures short { length result.now ≤ 16 }
+{
+    let named = l.0 < script.locks();
+    prove!(named);
+    script.lock_name(l)
+}
+
+// Appends the processor of a local lock's cell, and nothing for another lock.
+fn push_cell(cell: Option<Cpu>, out: &mut Vec<u8>)
+    requires room { vec_len out.old + 21 ≤ vec_capacity out.old }
+    ensures text { out.new.items ≡ out.old.items ++ cell_word cell }
+    ensures grows { vec_len out.new ≤ vec_len out.old + 21 }
+    ensures capacity { vec_capacity out.old ≤ vec_capacity out.new }
+{
+    if let Some(cpu) = cell {
+        push_byte(out, b'.');
+        push_digits(out, cpu.0 as u64);
+    }
+}
+
+// Appends a space and what a lock is told by.
+pub(crate) fn push_lock(script: &Script, l: LockId, out: &mut Vec<u8>)
+    requires lock { l.0 < length script.now.locks }
+    requires room { vec_len out.old + WORD_ROOM ≤ vec_capacity out.old }
+    ensures text { out.new.items ≡ out.old.items ++ 32 ∷ lock_word script.now l }
+    ensures grows { vec_len out.new ≤ vec_len out.old + WORD_ROOM }
+    ensures capacity { vec_capacity out.old ≤ vec_capacity out.new }
+{
+    push_word(out, lock_text(script, l));
+    push_cell(script.cell_of(l), out);
+}

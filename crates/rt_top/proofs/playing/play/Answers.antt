@@ -1,0 +1,14 @@
+use Rattle.std.proofs.Common.{◌+◌, ◌∙◌, ap, sym}
+use Rattle.rt_model.specs.NextEvent.{next_event}
+use Rattle.rt_model.proofs.NextEvents.{task-next_event}
+use Rattle.rt_top.proofs.Loops.{IsEntry-event}
+use Rattle.rt_top.proofs.playing.play.Goals as goal
+
+pub make_event-requires-clause-next : goal.make_event-requires-clause-next
+make_event-requires-clause-next g c =
+    let is = sym c.in-Some.ensures.event in
+    ap (next_event c.args.core.now.state) (task-next_event c.args.core.now.state c.args.t c.in-Some.e is) ∙ is
+
+pub make_event-requires-clause-entry : goal.make_event-requires-clause-entry
+make_event-requires-clause-entry g c =
+    IsEntry-event c.args.script.now c.args.core.now.state (c.args.first + c.args.so_far.count) c.in-Some.e c.requires.script c.in-Some.ensures.within

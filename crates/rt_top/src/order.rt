@@ -1,0 +1,55 @@
+ghost use Rattle.std.specs.Prelude.{◌≡◌, ◌<◌, ℕ, length, IfSome};
+ghost use Rattle.rt_model.specs.Order.{if_enabled, is_walking, chosen_task};
+ghost use Rattle.rt_model.specs.Run.{lowest, or_else, is_enabled};
+
+use rt_base::TaskId;
+use rt_core::Core;
+
+/// Who moves after the picks: the task that moved last, while it has a next event; else the lowest one
+/// whose chain walk is unfinished; else the lowest one. `None` where no task has a next event.
+pub fn pick_next(core: &Core, last: Option<TaskId>) -> Option<TaskId>
+    requires { IfSome last (λ t. t.0 < length core.now.state.threads) }
+    ensures { result ≡ chosen_task core.now.state last }
+{
+    match still_enabled(core, last) {
+        Some(t) => Some(t),
+        None => next_of_others(core),
+    }
+}
+
+// The lowest task whose chain walk is unfinished; else the lowest one.
+fn next_of_others(core: &Core) -> Option<TaskId>
+    ensures { result ≡ or_else (lowest (is_walking core.now.state) (length core.now.state.threads)) (lowest (is_enabled core.now.state) (length core.now.state.threads)) }
+{
+    match lowest_walking(core) {
+        Some(t) => Some(t),
+        None => core.lowest_enabled(),
+    }
+}
+
+// The task that moved last, where it has a next event.
+fn still_enabled(core: &Core, last: Option<TaskId>) -> Option<TaskId>
+    requires { IfSome last (λ t. t.0 < length core.now.state.threads) }
+    ensures { result ≡ if_enabled core.now.state last }
+{
+    let Some(t) = last else {
+        return None;
+    };
+    if core.next(t).is_some() {
+        Some(t)
+    } else {
+        None
+    }
+}
+
+// The lowest task whose chain walk is unfinished.
+fn lowest_walking(core: &Core) -> Option<TaskId>
+    ensures { result ≡ lowest (is_walking core.now.state) (length core.now.state.threads) }
+{
+    for t in 0..core.tasks() {
+        if core.is_walking(TaskId(t)) {
+            return Some(TaskId(t));
+        }
+    }
+    None
+}

@@ -1,0 +1,57 @@
+ghost use Rattle.std.specs.Prelude.{◌≡◌};
+ghost use Rattle.rt_top.specs.Status.{number_of, status_of};
+
+use rt_base::Ended;
+
+/// How a command ended.
+#[derive(Clone, Copy, Debug, PartialEq, Eq)]
+pub enum Status {
+    /// All tasks are at the end of their calls.
+    Done,
+    /// The words are none that the program takes.
+    Usage,
+    /// The input is no script.
+    BadScript,
+    /// No task has a next event, and some task isn't at the end of its calls.
+    Stuck,
+    /// The budget was used up, and some task has a next event.
+    Limit,
+    /// The source failed.
+    ReadFault,
+    /// The sink failed.
+    WriteFault,
+    /// Memory ran out.
+    NoMemory,
+    /// The input is longer than a script may be.
+    TooLong,
+}
+
+impl Status {
+    /// The exit status of the program.
+    pub fn number(self) -> u8
+        ensures { result ≡ number_of self }
+    {
+        match self {
+            Status::Done => 0,
+            Status::Usage => 2,
+            Status::BadScript => 3,
+            Status::Stuck => 4,
+            Status::Limit => 5,
+            Status::ReadFault => 6,
+            Status::WriteFault => 7,
+            Status::NoMemory => 8,
+            Status::TooLong => 9,
+        }
+    }
+
+    /// The status of a run that was printed whole.
+    pub fn of_run(ended: Ended) -> Status
+        ensures { result ≡ status_of ended }
+    {
+        match ended {
+            Ended::Done => Status::Done,
+            Ended::Stuck => Status::Stuck,
+            Ended::Limit => Status::Limit,
+        }
+    }
+}

@@ -1,5 +1,5 @@
 -- A lock script as data: what the text of a script means, and the limits that every script keeps.
-use Rattle.std.specs.Prelude.{◌≡◌, ◌≢◌, ℕ, ◌+◌, ◌*◌, ◌<◌, ◌≤◌, List, [], length, Option, Some, None, IfSome, unwrap_or, map, sum, slice_get, All}
+use Rattle.std.specs.Prelude.{◌≡◌, ◌≢◌, ℕ, ◌+◌, ◌*◌, ◌<◌, ◌≤◌, List, [], length, Option, Some, None, unwrap_or, map, sum, slice_get, All}
 use Rattle.rt_base.specs.declared.call.Call.{Call}
 use Rattle.rt_base.specs.declared.call.Call.TheVariants.{Lock, LockInt, TryLock, Unlock, Spin, TrySpin, Unspin, Read, TryRead, Unread, Write, TryWrite, Unwrite, Downgrade, Local, Unlocal, State, Schedule, Wake, Signal, SetPrio, Move}
 use Rattle.rt_base.specs.declared.id.TaskId.{TaskId}
@@ -86,22 +86,36 @@ IsCallOf script (Signal t) = t.0 < length script.tasks
 IsCallOf script (SetPrio t prio) = (t.0 < length script.tasks) × (prio ≤ 139)
 IsCallOf script (Move cpu) = cpu.0 < script.cpus
 
--- a task's own priority, processor and calls are in range
+-- a task's name, own priority, processor and calls are in range
 pub record IsTaskOf (script : Script) (task : TaskLine) : Type 0 where
-  pub name : length task.name ≤ 16
+  pub name : (1 ≤ length task.name) × (length task.name ≤ 16)
   pub own : task.own ≤ 139
   pub cpu : task.cpu.0 < script.cpus
   pub calls : All (IsCallOf script) task.calls
 
+-- a processor for a local lock's cell, and none for the other kinds
+abbrev pub IsCellOf : ℕ → Kind → Option Cpu → Type 0
+IsCellOf cpus kinds.Local (Some cpu) = cpu.0 < cpus
+IsCellOf cpus kinds.Local None = ⊥
+IsCellOf cpus kinds.Mutex cell = cell ≡ None
+IsCellOf cpus kinds.Spin cell = cell ≡ None
+IsCellOf cpus kinds.RwLock cell = cell ≡ None
+IsCellOf cpus kinds.RwSem cell = cell ≡ None
+
+-- a lock's name is in range, and so is the processor of a cell
+pub record IsLockWithin (cpus : ℕ) (lock : LockLine) : Type 0 where
+  pub name : (1 ≤ length lock.name) × (length lock.name ≤ 16)
+  pub cell : IsCellOf cpus lock.kind lock.cell
+
 -- the script keeps its limits, and names nothing that it doesn't have
 pub record IsScript (script : Script) : Type 0 where
-  pub cpus : script.cpus ≤ 8
+  pub cpus : (1 ≤ script.cpus) × (script.cpus ≤ 8)
   pub tasks : length script.tasks ≤ 64
   pub locks : length script.locks ≤ 256
   pub calls : all_calls script ≤ 16384
   pub picks : length script.picks ≤ 65536
   pub each_task : All (IsTaskOf script) script.tasks
-  pub each_lock : All (λ (l : LockLine). (length l.name ≤ 16) × IfSome l.cell (λ cpu. cpu.0 < script.cpus)) script.locks
+  pub each_lock : All (IsLockWithin script.cpus) script.locks
   pub each_pick : All (λ (t : TaskId). t.0 < length script.tasks) script.picks
 
 -- the call takes or releases a mutex

@@ -1,6 +1,6 @@
 -- A script stays one when a line is added to it.
 use Rattle.std.proofs.Common.{◌≡◌, ℕ, zero, suc, ◌+◌, ◌<◌, ◌≤◌, List, [], ◌∷◌, ◌++◌, length, get_or, set, refl, sym, ap, arith, length-append, length-set}
-use Rattle.std.specs.Prelude.{None, IfSome}
+use Rattle.std.specs.Prelude.{None}
 use Rattle.std.proofs.lemmas.Option.{unwrap_or-slice_get}
 use Rattle.std.proofs.lemmas.List.Elements.{All-push, All-weaker, All-set}
 use Rattle.std.proofs.lemmas.List.Sums.{sum-map, sum_by_push, sum_by-set}
@@ -10,7 +10,7 @@ use Rattle.rt_base.specs.declared.id.TaskId.{TaskId}
 use Rattle.rt_base.specs.declared.id.LockId.{LockId}
 use Rattle.rt_base.specs.declared.kind.Kind.{Kind}
 use Rattle.rt_base.specs.declared.kind.Kind.TheVariants as kinds
-use Rattle.rt_base.specs.Script.{Script, TaskLine, LockLine, task_line, all_calls, IsLockOf, HasReaders, IsCallOf, IsTaskOf, IsScript}
+use Rattle.rt_base.specs.Script.{Script, TaskLine, LockLine, task_line, lock_line, all_calls, IsLockOf, HasReaders, IsCallOf, IsTaskOf, IsLockWithin, IsScript}
 use Rattle.rt_script.specs.Adding.{with_task, with_lock, with_call, with_pick}
 
 -- ---- what a call names is still there
@@ -92,11 +92,10 @@ IsScript-with_task s line h room fits none =
 
 -- ---- a lock more
 
-pub IsScript-with_lock : (s : Script) (line : LockLine) → IsScript s → length s.locks < 256 → length line.name ≤ 16 → line.cell ≡ None → IsScript (with_lock s line)
-IsScript-with_lock s line h room name none =
+pub IsScript-with_lock : (s : Script) (line : LockLine) → IsScript s → length s.locks < 256 → IsLockWithin s.cpus line → IsScript (with_lock s line)
+IsScript-with_lock s line h room fits =
     let n : Script = with_lock s line in
     let k : Keeps s n = record { cpus = refl; tasks = omega arith; locks = λ fits l h. lock_stays s.locks (line ∷ []) l.0 fits h } in
-    let fits : LockLine → Type 0 = λ l. (length l.name ≤ 16) × IfSome l.cell (λ cpu. cpu.0 < s.cpus) in
     record {
       cpus = h.cpus;
       tasks = h.tasks;
@@ -104,9 +103,17 @@ IsScript-with_lock s line h room name none =
       calls = h.calls;
       picks = h.picks;
       each_task = All-weaker (IsTaskOf s) (IsTaskOf n) (task_stays s n k) s.tasks h.each_task;
-      each_lock = All-push fits s.locks line h.each_lock (name, rw none tt);
+      each_lock = All-push (IsLockWithin s.cpus) s.locks line h.each_lock fits;
       each_pick = h.each_pick;
     }
+
+-- ---- the line of a lock
+
+pub lock_within : (s : Script) (l : LockId) → IsScript s → l.0 < length s.locks → IsLockWithin s.cpus (lock_line s l)
+lock_within s l h in' =
+    let d : LockLine = record { name = []; kind = kinds.Mutex; cell = None } in
+    let is : lock_line s l ≡ get_or s.locks l.0 d = unwrap_or-slice_get s.locks l.0 d in
+    rw is (h.each_lock l.0 d in')
 
 -- ---- a call more
 

@@ -1,5 +1,5 @@
 ghost use Rattle.std.specs.Prelude.{◌≡◌, ◌<◌, ◌≤◌, [], length, None, Some, IfOk, string_bytes};
-ghost use Rattle.rt_base.specs.Script.{all_calls, IsTaskOf, IsCallOf};
+ghost use Rattle.rt_base.specs.Script.{all_calls, IsTaskOf, IsCallOf, IsCellOf};
 ghost use Rattle.rt_script.specs.Adding.{no_lines, with_task, with_lock, with_call, with_pick};
 ghost use Rattle.rt_script.specs.Names.{named, task_named, lock_named, new_name};
 ghost use Rattle.rt_script.specs.Refusing.{Gives};
@@ -97,7 +97,7 @@ impl Draft {
     /// The name that the word declares: it has the shape of one, and stands for nothing yet.
     pub(crate) fn new_name(&self, alloc: Global, word: &[u8]) -> Result<String, Refusal>
         ensures name { Gives string_bytes result (new_name self.now word.now) }
-        ensures short { IfOk result (λ name. length (string_bytes name) ≤ 16) }
+        ensures length { IfOk result (λ name. (1 ≤ length (string_bytes name)) × (length (string_bytes name) ≤ 16)) }
         ensures free { IfOk result (λ name. named self.now (string_bytes name) ≡ None) }
     {
         if !is_name(word) {
@@ -131,8 +131,8 @@ impl Draft {
     /// Adds a lock behind the others.
     pub(crate) fn push_lock(&mut self, lock: Lock) -> Result<(), Refusal>
         requires room { length self.old.locks < MAX_LOCKS }
-        requires name { length lock.name ≤ 16 }
-        requires one_cell { lock.cell ≡ None }
+        requires name { (1 ≤ length lock.name) × (length lock.name ≤ 16) }
+        requires cell { IsCellOf self.old.cpus lock.kind lock.cell }
         requires free { named self.old lock.name ≡ None }
         ensures { Gives (λ _. self.new) result (Some (with_lock self.old lock)) }
     {

@@ -1,4 +1,4 @@
-ghost use Rattle.std.specs.Prelude.{◌≡◌, ◌<◌, ◌≤◌, length, IfOk, IfErr, Some};
+ghost use Rattle.std.specs.Prelude.{◌≡◌, ◌<◌, ◌≤◌, length, IfOk, IfErr, IfSome, Some};
 ghost use Rattle.rt_base.specs.Script.{IsCallOf, IsScript, HasMutexesOnly};
 ghost use Rattle.rt_script.specs.Adding.{no_lines};
 ghost use Rattle.rt_script.specs.Grammar.{cpu_of, kind_of, call_of, call_in, after_task, after_lock, after_call, after_pick, after_line, after_lines, is_end, script_of};
@@ -46,7 +46,8 @@ fn cpu_of(script: &Script, word: &[u8]) -> Result<Cpu, Refusal>
 
 /// The kind of lock that a word names.
 fn kind_of(word: &[u8]) -> Option<Kind>
-    ensures { result ≡ kind_of word.now }
+    ensures kind { result ≡ kind_of word.now }
+    ensures mutex { IfSome result (λ kind. kind ≡ Kind.Mutex) }
 {
     if word == b"mutex".as_slice() {
         Some(Kind::Mutex)

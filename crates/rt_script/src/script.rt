@@ -1,5 +1,5 @@
-ghost use Rattle.std.specs.Prelude.{◌≡◌, ℕ, ◌<◌, ◌≤◌, List, [], ◌∷◌, ◌++◌, length, None, OnOk, OnErr};
-ghost use Rattle.rt_base.specs.Script.{task_line, lock_line, all_calls, budget_of, IsScript, IsTaskOf, IsCallOf};
+ghost use Rattle.std.specs.Prelude.{◌≡◌, ℕ, ◌<◌, ◌≤◌, List, [], ◌∷◌, ◌++◌, length, OnOk, OnErr};
+ghost use Rattle.rt_base.specs.Script.{task_line, lock_line, all_calls, budget_of, IsScript, IsTaskOf, IsCallOf, IsCellOf, IsLockWithin};
 ghost use Rattle.rt_script.specs.Grammar.{takes_task, takes_lock, takes_call, takes_pick};
 ghost use Rattle.rt_script.specs.Adding.{no_lines, with_task, with_lock, with_call, with_pick};
 
@@ -85,7 +85,8 @@ impl Script {
     /// The lock of a number.
     fn lock(&self, l: LockId) -> &Lock
         requires { l.0 < length self.now.locks }
-        ensures { result.now ≡ lock_line self.now l }
+        ensures line { result.now ≡ lock_line self.now l }
+        ensures within { IsLockWithin self.now.cpus (lock_line self.now l) }
     {
         &self.locks[l.0 as usize]
     }
@@ -141,7 +142,8 @@ impl Script {
     /// The processor of a local lock's cell, and `None` for the other kinds.
     pub fn cell_of(&self, l: LockId) -> Option<Cpu>
         requires { l.0 < length self.now.locks }
-        ensures { result ≡ (lock_line self.now l).cell }
+        ensures cell { result ≡ (lock_line self.now l).cell }
+        ensures local { IsCellOf self.now.cpus (lock_line self.now l).kind result }
     {
         self.lock(l).cell()
     }
@@ -182,8 +184,8 @@ impl Script {
     /// Adds a lock behind the others. An `Err` changes nothing.
     pub(crate) fn push_lock(&mut self, lock: Lock) -> Result<(), AllocError>
         requires room { length self.old.locks < MAX_LOCKS }
-        requires name { length lock.name ≤ 16 }
-        requires one_cell { lock.cell ≡ None }
+        requires name { (1 ≤ length lock.name) × (length lock.name ≤ 16) }
+        requires cell { IsCellOf self.old.cpus lock.kind lock.cell }
         ensures ok { OnOk result (self.new ≡ with_lock self.old lock) }
         ensures err { OnErr result (self.new ≡ self.old) }
     {

@@ -124,7 +124,8 @@ IsMutexCall (Lock l) = Unit {0}
 IsMutexCall (Unlock l) = Unit {0}
 IsMutexCall _ = ⊥
 
--- the script has no lock but mutexes, and its tasks only take and release them
-pub record HasMutexesOnly (script : Script) : Type 0 where
+-- the script has one lock at most, a mutex, and its tasks only take and release it
+pub record HasOneMutex (script : Script) : Type 0 where
+  pub one : length script.locks ≤ 1
   pub locks : All (λ (l : LockLine). l.kind ≡ kinds.Mutex) script.locks
   pub calls : All (λ (t : TaskLine). All IsMutexCall t.calls) script.tasks

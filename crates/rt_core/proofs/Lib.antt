@@ -1,1 +1,7 @@
 pub mod Fronts
+pub mod StartCells
+pub mod PartsOf
+pub mod Applying
+pub mod Queues
+pub mod Tops
+pub mod Notes

@@ -4,9 +4,13 @@ pub mod Report
 pub mod Text
 pub mod Made
 pub mod Advance
+pub mod Cells
+pub mod Machine
 pub use Rattle.rt_base.specs.Script
 pub use Rattle.rt_model.specs.Parts
+pub use Rattle.rt_model.specs.Rows
 pub use Rattle.rt_model.specs.State
+pub use Rattle.rt_model.specs.Steps
 pub use Rattle.rt_model.specs.Footprint
 pub use Rattle.rt_model.specs.NextEvent
 pub use Rattle.rt_model.specs.After

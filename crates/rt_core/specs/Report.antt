@@ -55,12 +55,12 @@ note_words script (notes.Lock l key) = codes "lock" ∷ lock_word script l ∷ d
 note_words script (notes.Readers l) = codes "readers" ∷ lock_word script l ∷ []
 note_words script notes.Wake = codes "wake" ∷ []
 
--- what the note names is the script's
-abbrev pub IsNoteOf : Script → Note → Type 0
-IsNoteOf script (notes.Walk cursor) = cursor.0 < length script.tasks
-IsNoteOf script (notes.Lock l key) = l.0 < length script.locks
-IsNoteOf script (notes.Readers l) = l.0 < length script.locks
-IsNoteOf script _ = Unit {0}
+-- what the note names is among so many tasks and locks
+abbrev pub IsNoteWithin : ℕ → ℕ → Note → Type 0
+IsNoteWithin tasks locks (notes.Walk cursor) = cursor.0 < tasks
+IsNoteWithin tasks locks (notes.Lock l key) = l.0 < locks
+IsNoteWithin tasks locks (notes.Readers l) = l.0 < locks
+IsNoteWithin tasks locks _ = Unit {0}
 
 -- name, own and effective priority
 abbrev pub priority_words : Script → TaskId → TaskPart → List (List ℕ)

@@ -1,6 +1,6 @@
 // The lists that a core begins with.
-ghost use Rattle.std.specs.Prelude.{◌≡◌, ◌≤◌, length, map, All, IfOk};
-ghost use Rattle.rt_base.specs.Script.{TaskLine, LockLine, HasMutexesOnly};
+ghost use Rattle.std.specs.Prelude.{◌≡◌, length, map, IfOk};
+ghost use Rattle.rt_base.specs.Script.{TaskLine, LockLine, HasOneMutex};
 ghost use Rattle.rt_model.specs.State.{free_lock, fresh_task, fresh_thread};
 
 use crate::lock_cell::LockCell;
@@ -10,13 +10,14 @@ use rt_base::{LockId, NoMemory, TaskId};
 use rt_script::Script;
 use std::alloc::Global;
 
-/// A free lock for each lock of the script.
+/// A free lock for each lock of the script, with room for all tasks.
 pub fn lock_cells(alloc: Global, script: &Script) -> Result<Vec<LockCell>, NoMemory>
-    ensures { IfOk result (λ cells. cells.items ≡ map (λ (line : LockLine). free_lock line.kind) script.now.locks) }
+    ensures { IfOk result (λ cells. cells.items ≡ map (λ (line : LockLine). record { part = free_lock line.kind; tasks = length script.now.tasks }) script.now.locks) }
 {
+    let tasks = script.tasks();
     let mut cells = Vec::with_capacity(alloc, script.locks() as usize)?;
     for l in 0..script.locks() {
-        cells.push(LockCell::new(alloc, script.kind(LockId(l)))?)?;
+        cells.push(LockCell::new(alloc, script.kind(LockId(l)), tasks)?)?;
     }
     Ok(cells)
 }
@@ -35,7 +36,7 @@ pub fn task_cells(alloc: Global, script: &Script) -> Result<Vec<TaskCell>, NoMem
 
 /// A thread that has made none of its calls for each task of the script.
 pub fn threads(alloc: Global, script: &Script) -> Result<Vec<Thread>, NoMemory>
-    requires { HasMutexesOnly script.now }
+    requires { HasOneMutex script.now }
     ensures { IfOk result (λ threads. threads.items ≡ map (λ (line : TaskLine). fresh_thread (length script.now.locks) line.calls line.cpu) script.now.tasks) }
 {
     let locks = script.locks();

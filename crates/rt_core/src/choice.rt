@@ -1,13 +1,16 @@
-// The parts of a choice: what a call's first event is.
+// The parts of a choice: which event a call makes, from the parts that it looks at.
 ghost use Rattle.std.specs.Prelude.{◌≡◌, ◌≤◌, length, Some};
-ghost use Rattle.rt_model.specs.NextEvent.{bare, acquire, release, spinning_hold, spinning_holds};
+ghost use Rattle.rt_model.specs.NextEvent.{bare, acquire, release, boost_of, take_event, give_event, awake_event, queued_event, spinning_hold, spinning_holds};
+ghost use Rattle.rt_model.specs.Rows.{may_take};
+ghost use Rattle.rt_core.specs.Machine.{parts_of};
 
 use crate::lock_cell::LockCell;
-use rt_base::{LockId, Path, Reply, TaskId};
+use crate::task_cell::TaskCell;
+use rt_base::{LockId, Path, Prio, Reply, TaskId, TaskState};
 use rt_model::{Event, EventKind, Hold};
 
-// An event that names nothing but its task.
-fn bare(task: TaskId, kind: EventKind) -> Event
+/// An event that names nothing but its task.
+pub fn bare(task: TaskId, kind: EventKind) -> Event
     ensures { result ≡ bare task kind }
 {
     Event {
@@ -24,32 +27,104 @@ fn bare(task: TaskId, kind: EventKind) -> Event
     }
 }
 
+/// An event on a lock that tells nothing else.
+fn on_lock(t: TaskId, kind: EventKind, l: LockId) -> Event
+    ensures { result ≡ record (bare t kind) { lock = Some l } }
+{
+    Event {
+        lock: Some(l),
+        ..bare(t, kind)
+    }
+}
+
+/// The change of a task's effective priority, where it changes.
+pub fn boost_of(t: TaskId, before: Prio, after: Prio) -> Option<(TaskId, Prio)>
+    ensures { result ≡ boost_of t before after }
+{
+    if before == after {
+        None
+    } else {
+        Some((t, after))
+    }
+}
+
 /// The first event of a call that acquires and doesn't try.
-pub fn acquire_event(t: TaskId, l: LockId, lock: &LockCell) -> Option<Event>
-    ensures { result ≡ acquire t l lock.now }
+pub fn acquire_event(t: TaskId, l: LockId, lock: &LockCell) -> Event
+    ensures { result ≡ acquire t l lock.now.part }
 {
     if lock.owner().is_some() || lock.bit() {
-        return None;
+        return on_lock(t, EventKind::Mark, l);
     }
-    Some(Event {
-        lock: Some(l),
+    Event {
         reply: Some(Reply::Got),
-        ..bare(t, EventKind::Fast)
-    })
+        ..on_lock(t, EventKind::Fast, l)
+    }
 }
 
 /// The first event of a call that releases.
-pub fn release_event(t: TaskId, l: LockId, lock: &LockCell) -> Option<Event>
-    ensures { result ≡ release t l lock.now }
+pub fn release_event(t: TaskId, l: LockId, lock: &LockCell, task: &TaskCell) -> Event
+    ensures { result ≡ release t l lock.now.part task.now }
 {
     if lock.bit() {
-        return None;
+        return give_event(t, l, lock, task);
     }
-    Some(Event {
-        lock: Some(l),
+    Event {
         reply: Some(Reply::Done),
-        ..bare(t, EventKind::Free)
-    })
+        ..on_lock(t, EventKind::Free, l)
+    }
+}
+
+// Gives a lock up and wakes its top waiter.
+fn give_event(t: TaskId, l: LockId, lock: &LockCell, task: &TaskCell) -> Event
+    ensures { result ≡ give_event t l lock.now.part task.now }
+{
+    Event {
+        woken: lock.top_task(),
+        boost: boost_of(t, task.effective(), task.effective_with(l, None)),
+        reply: Some(Reply::Done),
+        ..on_lock(t, EventKind::Give, l)
+    }
+}
+
+/// Takes a lock.
+pub fn take_event(t: TaskId, l: LockId, lock: &LockCell, task: &TaskCell) -> Event
+    ensures { result ≡ take_event t l lock.now.part task.now }
+{
+    let after = task.effective_with(l, lock.top_key_without(t));
+    Event {
+        boost: boost_of(t, task.effective(), after),
+        reply: Some(Reply::Got),
+        ..on_lock(t, EventKind::Take, l)
+    }
+}
+
+/// Whether a task may take a lock.
+pub fn may_take(t: TaskId, lock: &LockCell, task: &TaskCell) -> bool
+    ensures { result ≡ may_take t lock.now.part task.now }
+{
+    let key = lock.key_of(t).unwrap_or(task.effective());
+    lock.may_take(t, key).is_some()
+}
+
+/// The event of a queued task: none while it sleeps; else it takes the lock, or sleeps again.
+pub fn queued_event(t: TaskId, l: LockId, lock: &LockCell, task: &TaskCell) -> Option<Event>
+    ensures { result ≡ queued_event t l lock.now.part task.now task.now.state }
+{
+    match task.state() {
+        TaskState::Running => Some(awake_event(t, l, lock, task)),
+        _ => None,
+    }
+}
+
+// The event of a queued task that runs.
+fn awake_event(t: TaskId, l: LockId, lock: &LockCell, task: &TaskCell) -> Event
+    ensures { result ≡ awake_event t l lock.now.part task.now }
+{
+    if may_take(t, lock, task) {
+        take_event(t, l, lock, task)
+    } else {
+        on_lock(t, EventKind::Again, l)
+    }
 }
 
 /// The answer that a thread gives at once.
@@ -65,7 +140,7 @@ pub fn own_event(t: TaskId, lock: Option<LockId>, answer: Reply) -> Event
 
 // One where something is held of a lock of a spinning kind.
 fn spinning_hold(lock: &LockCell, hold: &Hold) -> u32
-    ensures { result ≡ spinning_hold lock.now hold.now }
+    ensures { result ≡ spinning_hold lock.now.part hold.now }
 {
     let held = hold.owns || hold.reads > 0;
     if lock.kind().spins() && held { 1 } else { 0 }
@@ -75,7 +150,7 @@ fn spinning_hold(lock: &LockCell, hold: &Hold) -> u32
 pub fn spinning_holds(locks: &[LockCell], holds: &[Hold]) -> u32
     requires same { length holds.now ≡ length locks.now }
     requires few { length locks.now ≤ 256 }
-    ensures { result ≡ spinning_holds locks.now holds.now }
+    ensures { result ≡ spinning_holds (parts_of locks.now) holds.now }
 {
     let mut count = 0;
     for (i, lock) in locks.iter().enumerate() {

@@ -18,6 +18,8 @@ mod refuses;
 mod report;
 mod task_cell;
 mod thread;
+mod waiters;
+mod woken;
 mod words;
 
 pub use entry::{Entry, entry_of};
@@ -27,3 +29,5 @@ pub use machine::Core;
 pub use note::Note;
 pub use report::write_end_line;
 pub use task_cell::TaskCell;
+pub use waiters::Waiters;
+pub use woken::Woken;

@@ -143,4 +143,12 @@ mod tests {
         assert_eq!(rt; out.as_slice(), want.as_slice());
         Ok(())
     }
+
+    #[test]
+    fn header_is_the_first_line(rt: HostRuntime) -> Result<(), Fail> {
+        let mut out = Vec::with_capacity(rt.alloc(), 4096)?;
+        write_header(&mut out);
+        assert_eq!(rt; out.as_slice(), b"rtjournal 1\n".as_slice());
+        Ok(())
+    }
 }

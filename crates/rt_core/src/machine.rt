@@ -1,20 +1,24 @@
-ghost use Rattle.std.specs.Prelude.{◌≡◌, ◌<◌, ◌+◌, ◌^◌, ◌↔◌, ℕ, length, false, IsTrue, IfOk, IfSome, Some, ◌≤◌, ◌++◌, vec_len, vec_capacity};
+ghost use Rattle.std.specs.Prelude.{◌≡◌, ◌<◌, ◌≤◌, ◌+◌, ◌^◌, ◌++◌, ℕ, length, false, All, Some, IfOk, IfSome, option_and_then, vec_len, vec_capacity};
 ghost use Rattle.rt_model.specs.Parts.{call_of, effective_of};
-ghost use Rattle.rt_model.specs.State.{start, object, owner_part, task_part, thread_part};
-ghost use Rattle.rt_model.specs.NextEvent.{next_event, first_event, acquire, release, called_lock, is_held, refusal, kind_of, spinning_holds};
-ghost use Rattle.rt_model.specs.After.{state_after};
+ghost use Rattle.rt_model.specs.State.{State, start, object, owner_part, task_part, thread_part};
+ghost use Rattle.rt_model.specs.NextEvent.{next_event, first_event, later_event, slow_event, wait_event, boost_of, owner_task, kind_of};
+ghost use Rattle.rt_model.specs.After.{state_after, is_blocked};
+ghost use Rattle.rt_model.specs.Steps.{with_top};
 ghost use Rattle.rt_model.specs.Footprint.{touches};
-ghost use Rattle.rt_model.specs.Laws.{IsOf, IsServed, IsWithin};
+ghost use Rattle.rt_model.specs.Laws.{IsOf, IsServed, IsWithin, IsLawful, AgreeOn};
 ghost use Rattle.rt_model.specs.Run.{is_done, is_stuck, is_enabled, lowest};
 ghost use Rattle.rt_model.specs.Order.{is_walking};
 ghost use Rattle.rt_model.specs.declared.obj.Obj.{Obj};
-ghost use Rattle.rt_base.specs.Script.{Script, HasMutexesOnly};
-ghost use Rattle.rt_core.specs.Report.{note_of, blocked_note, readers_note, report_line_of, task_report, lock_report};
+ghost use Rattle.rt_base.specs.Script.{Script, HasOneMutex};
+ghost use Rattle.rt_core.specs.Report.{IsNoteWithin, note_of, call_note, blocked_note, readers_note, report_line_of, task_report, lock_report};
 ghost use Rattle.rt_core.specs.Made.{Made};
 
 use crate::beginning::{lock_cells, task_cells, threads};
-use crate::change::{advance_thread, change_locks};
-use crate::choice::{acquire_event, own_event, release_event, spinning_holds};
+use crate::change::{advance_thread, change_locks, change_tasks};
+use crate::choice::{
+    acquire_event, bare, boost_of, may_take, own_event, queued_event, release_event,
+    spinning_holds, take_event,
+};
 use crate::filled::filled;
 use crate::lock_cell::LockCell;
 use crate::note::Note;
@@ -23,7 +27,7 @@ use crate::report::{write_lock_line, write_task_line};
 use crate::task_cell::TaskCell;
 use crate::thread::Thread;
 use rt_base::{Call, Kind, LockId, NoMemory, Prio, TaskId};
-use rt_model::{Event, Phase, ReaderCell};
+use rt_model::{Event, EventKind, Phase, ReaderCell, Row};
 use rt_script::Script;
 use std::alloc::Global;
 use std::marker::Model;
@@ -43,11 +47,11 @@ impl Model for Core {
 
     ghost Value = { Made };
 
-    ghost use Rattle.rt_model.specs.Laws.{IsShaped};
+    ghost use Rattle.rt_core.specs.Machine.{state_of, IsCore};
 
-    ghost view = { λ c. record { state = record { locks = c.locks.items; readers = c.readers.items; tasks = c.tasks.items; threads = c.threads.items }; made = c.made } };
+    ghost view = { λ c. record { state = state_of c.locks.items c.readers.items c.tasks.items c.threads.items; made = c.made } };
 
-    ghost invariant = { λ c. IsShaped (record { locks = c.locks.items; readers = c.readers.items; tasks = c.tasks.items; threads = c.threads.items }) };
+    ghost invariant = { λ c. IsCore c.locks.items (state_of c.locks.items c.readers.items c.tasks.items c.threads.items) c.made };
 }
 
 // The reader part of a lock at the start.
@@ -60,9 +64,10 @@ const READABLE: ReaderCell = ReaderCell {
 impl Core {
     /// The machine in the script's start state: no holder, no waiter, every task running.
     pub fn new(alloc: Global, script: &Script) -> Result<Core, NoMemory>
-        requires { HasMutexesOnly script.now }
+        requires { HasOneMutex script.now }
         ensures start { IfOk result (λ core. core ≡ record { state = start script.now; made = 0 }) }
         ensures script { IfOk result (λ core. IsOf script.now core.state) }
+        ensures lawful { IfOk result (λ core. IsLawful core.state core.made) }
     {
         Ok(Core {
             locks: lock_cells(alloc, script)?,
@@ -77,6 +82,7 @@ impl Core {
     pub fn tasks(&self) -> u32
         ensures number { result ≡ length self.now.state.threads }
         ensures few { result ≤ 64 }
+        ensures lawful { IsLawful self.now.state self.now.made }
     {
         self.threads.len() as u32
     }
@@ -104,10 +110,23 @@ impl Core {
         &self.tasks[t.0 as usize]
     }
 
+    // A task's thread.
+    fn thread(&self, t: TaskId) -> &Thread
+        requires { t.0 < length self.now.state.threads }
+        ensures part { result.now ≡ thread_part self.now.state t }
+        ensures holds { length result.now.holds ≡ length self.now.state.locks }
+        ensures lawful { IsLawful self.now.state self.now.made }
+    {
+        &self.threads[t.0 as usize]
+    }
+
     /// A lock's owner part.
     pub fn lock(&self, l: LockId) -> &LockCell
         requires { l.0 < length self.now.state.locks }
-        ensures { result.now ≡ owner_part self.now.state l }
+        ensures part { result.now.part ≡ owner_part self.now.state l }
+        ensures owner { IfSome result.now.part.owner (λ t. t.0 < length self.now.state.threads) }
+        ensures rows { All (λ (row : Row). row.who < length self.now.state.threads) result.now.part.rows }
+        ensures room { result.now.tasks ≡ length self.now.state.threads }
     {
         &self.locks[l.0 as usize]
     }
@@ -117,7 +136,7 @@ impl Core {
         requires { t.0 < length self.now.state.threads }
         ensures { result ≡ (thread_part self.now.state t).answered }
     {
-        self.threads[t.0 as usize].answered()
+        self.thread(t).answered()
     }
 
     /// Whether every task is at the end of its calls.
@@ -151,41 +170,59 @@ impl Core {
         requires { t.0 < length self.now.state.threads }
         ensures { result ≡ is_walking self.now.state t.0 }
     {
-        let in_walk = self.threads[t.0 as usize].is_in_walk();
-        in_walk && self.next(t).is_some()
+        self.thread(t).is_in_walk() && self.next(t).is_some()
     }
 
     /// Where a task stands.
     pub fn note(&self, t: TaskId) -> Note
         requires { t.0 < length self.now.state.threads }
-        ensures { result ≡ note_of self.now.state t }
+        ensures note { result ≡ note_of self.now.state t }
+        ensures within { IsNoteWithin (length self.now.state.threads) (length self.now.state.locks) result }
     {
-        let thread = &self.threads[t.0 as usize];
-        let Some(call) = thread.call() else {
-            return Note::End;
-        };
+        let thread = self.thread(t);
+        self.call_note(t, thread, thread.call())
+    }
+
+    // Where a task stands that is at this call.
+    fn call_note(&self, t: TaskId, thread: &Thread, call: Option<Call>) -> Note
+        requires task { t.0 < length self.now.state.threads }
+        requires thread { thread.now ≡ thread_part self.now.state t }
+        requires served { IfSome call (IsServed (length thread.now.holds)) }
+        ensures { result ≡ call_note self.now.state t call }
+    {
+        let Some(call) = call else { return Note::End };
         match thread.phase() {
             Phase::Walk(cursor, _) => Note::Walk(cursor),
             Phase::Confirm(_) => Note::Confirm,
             _ if self.next(t).is_some() => Note::Ready,
-            Phase::Wait => blocked_note(self.tasks[t.0 as usize].place()),
+            Phase::Wait => blocked_note(self.cell(t).place()),
             Phase::WWait => readers_note(thread.called_lock(&call)),
             _ => Note::Wake,
         }
     }
 
-    /// The one event that a task may make now.
+    /// The one event that a task may make now. It depends on nothing but what it touches.
     pub fn next(&self, t: TaskId) -> Option<Event>
         requires { t.0 < length self.now.state.threads }
         ensures event { result ≡ next_event self.now.state t }
         ensures task { IfSome result (λ e. e.task ≡ t) }
         ensures within { IfSome result (IsWithin (length self.now.state.threads) (length self.now.state.locks)) }
+        ensures local { IfSome result (λ e. (s : State) (made : ℕ) → IsLawful s made → AgreeOn e self.now.state s → next_event s t ≡ Some e) }
     {
-        let thread = &self.threads[t.0 as usize];
+        self.event_of(t)
+    }
+
+    // The event of the call that a task is at.
+    fn event_of(&self, t: TaskId) -> Option<Event>
+        requires { t.0 < length self.now.state.threads }
+        ensures event { result ≡ next_event self.now.state t }
+        ensures lawful { IsLawful self.now.state self.now.made }
+    {
+        let thread = self.thread(t);
         let call = thread.call()?;
         match thread.phase() {
             Phase::Start => self.start_of(t, thread, &call),
-            _ => None,
+            phase => self.later_event(t, phase, thread.called_lock(&call)),
         }
     }
 
@@ -222,13 +259,79 @@ impl Core {
 
     // The first event of a call that isn't answered by its thread alone.
     fn first_event(&self, t: TaskId, call: &Call) -> Option<Event>
-        requires { IsServed (length self.now.state.locks) call.now }
+        requires task { t.0 < length self.now.state.threads }
+        requires served { IsServed (length self.now.state.locks) call.now }
         ensures { result ≡ first_event self.now.state t call.now }
     {
         match call {
-            Call::Lock(l) => acquire_event(t, *l, &self.locks[l.0 as usize]),
-            Call::Unlock(l) => release_event(t, *l, &self.locks[l.0 as usize]),
+            Call::Lock(l) => Some(acquire_event(t, *l, self.lock(*l))),
+            Call::Unlock(l) => Some(release_event(t, *l, self.lock(*l), self.cell(t))),
             _ => None,
+        }
+    }
+
+    // The event of a call on a lock that isn't in its first phase.
+    fn later_event(&self, t: TaskId, phase: Phase, lock: Option<LockId>) -> Option<Event>
+        requires task { t.0 < length self.now.state.threads }
+        requires lock { IfSome lock (λ l. l.0 < length self.now.state.locks) }
+        ensures { result ≡ later_event phase self.now.state t lock }
+    {
+        let l = lock?;
+        match phase {
+            Phase::Slow => Some(self.slow_event(t, l)),
+            Phase::Wait => queued_event(t, l, self.lock(l), self.cell(t)),
+            _ => None,
+        }
+    }
+
+    // The event of a call that has set the bit.
+    fn slow_event(&self, t: TaskId, l: LockId) -> Event
+        requires task { t.0 < length self.now.state.threads }
+        requires lock { l.0 < length self.now.state.locks }
+        ensures { result ≡ slow_event t l (owner_part self.now.state l) (task_part self.now.state t) (owner_task self.now.state (owner_part self.now.state l)) }
+    {
+        let (lock, task) = (self.lock(l), self.cell(t));
+        if may_take(t, lock, task) {
+            take_event(t, l, lock, task)
+        } else {
+            self.wait_event(t, l)
+        }
+    }
+
+    // Is queued behind the lock's owner.
+    fn wait_event(&self, t: TaskId, l: LockId) -> Event
+        requires task { t.0 < length self.now.state.threads }
+        requires lock { l.0 < length self.now.state.locks }
+        ensures { result ≡ wait_event t l (owner_part self.now.state l) (task_part self.now.state t) (owner_task self.now.state (owner_part self.now.state l)) }
+    {
+        let lock = self.lock(l);
+        let top = lock.top_key_with(t, self.cell(t).effective());
+        Event {
+            lock: Some(l),
+            owner: lock.owner(),
+            boost: self.owner_boost(l, lock.owner(), top),
+            ..bare(t, EventKind::Wait)
+        }
+    }
+
+    // What a new top waiter of a lock changes of its owner's priority.
+    fn owner_boost(&self, l: LockId, owner: Option<TaskId>, top: Prio) -> Option<(TaskId, Prio)>
+        requires owner { IfSome owner (λ t. t.0 < length self.now.state.threads) }
+        ensures { result ≡ option_and_then (λ t. boost_of t (effective_of (task_part self.now.state t)) (effective_of (with_top (Some l) (Some top) (task_part self.now.state t)))) owner }
+    {
+        let owner = owner?;
+        let task = self.cell(owner);
+        boost_of(owner, task.effective(), task.effective_with(l, Some(top)))
+    }
+
+    // Whether a task waits for a lock.
+    fn is_blocked(&self, task: Option<TaskId>) -> bool
+        requires { IfSome task (λ t. t.0 < length self.now.state.threads) }
+        ensures { result ≡ is_blocked self.now.state task }
+    {
+        match task {
+            Some(t) => self.cell(t).blocked().is_some(),
+            None => false,
         }
     }
 
@@ -239,12 +342,19 @@ impl Core {
         ensures state { self.new.state ≡ state_after self.old.state e.now }
         ensures made { self.new.made ≡ self.old.made + 1 }
 
-        // What the event doesn't touch stays, and the core is still one of its script.
+        // What the event doesn't touch stays, and the core is still one of its script, and lawful.
         ensures frame { (o : Obj) → touches e.now o ≡ false → object self.new.state o ≡ object self.old.state o }
         ensures script { (script : Script) → IsOf script self.old.state → IsOf script self.new.state }
+        ensures lawful { IsLawful self.new.state self.new.made }
     {
-        change_locks(&mut self.locks, e);
-        advance_thread(&mut self.threads, e);
+        let prio = self.effective(e.task);
+        let call = self.threads[e.task.0 as usize].call();
+        let owner_blocked = self.is_blocked(e.owner);
+        // So far every event is on a lock, which the condition says.
+        let Some(l) = e.lock else { return };
+        change_locks(&mut self.locks, e, prio);
+        change_tasks(&mut self.tasks, e, call, l, &self.locks[l.0 as usize]);
+        advance_thread(&mut self.threads, e, owner_blocked);
         self.made += 1;
     }
 }
@@ -276,8 +386,7 @@ impl Core {
         ensures short { length (task_report script.now self.now.state t) < 4096 }
         ensures capacity { vec_capacity out.old ≤ vec_capacity out.new }
     {
-        let thread = &self.threads[t.0 as usize];
-        write_task_line(script, t, self.cell(t), thread, self.note(t), out);
+        write_task_line(script, t, self.cell(t), self.thread(t), self.note(t), out);
     }
 
     // Writes a lock's line of the report.

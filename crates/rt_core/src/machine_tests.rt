@@ -1,43 +1,117 @@
 ghost use Rattle.rt_model.specs.Laws.{IsOf};
 
-use crate::{Core, Note};
-use rt_base::{LockId, Reply, TaskId};
-use rt_model::EventKind;
+use crate::{Core, LockCell, Note};
+use rt_base::{LockId, Prio, Reply, TaskId, TaskState};
+use rt_model::{Event, EventKind, Reason, Row};
 use rt_script::{Script, read_script};
 use std::alloc::Global;
 use std::process::Abort;
 use std::test::Fail;
 
-const TASK: TaskId = TaskId(0);
+const A: TaskId = TaskId(0);
+
+const B: TaskId = TaskId(1);
+
+const C: TaskId = TaskId(2);
 
 const LOCK: LockId = LockId(0);
 
-const GOT: (EventKind, Reply) = (EventKind::Fast, Reply::Got);
+// An event's kind, the task that it wakes, whom it boosts with which priority, and its answer.
+type Told = (
+    EventKind,
+    Option<TaskId>,
+    Option<(TaskId, u8)>,
+    Option<Reply>,
+);
 
-const DONE: (EventKind, Reply) = (EventKind::Free, Reply::Done);
+const FAST: Told = (EventKind::Fast, None, None, Some(Reply::Got));
 
-const HELD: (EventKind, Reply) = (EventKind::Own, Reply::Deadlock);
+const FREE: Told = (EventKind::Free, None, None, Some(Reply::Done));
 
-const NOT_HELD: (EventKind, Reply) = (EventKind::Own, Reply::NotOwner);
+const MARK: Told = (EventKind::Mark, None, None, None);
+
+const TAKE: Told = (EventKind::Take, None, None, Some(Reply::Got));
+
+const HELD: Told = (EventKind::Own, None, None, Some(Reply::Deadlock));
+
+const NOT_HELD: Told = (EventKind::Own, None, None, Some(Reply::NotOwner));
 
 #[test]
 fn one_task_takes_and_releases(rt: HostRuntime) -> Result<(), Fail> {
-    let (free, taken) = ((None, "lock m - 0\n"), (Some(TASK), "lock m a 0\n"));
+    let (free, taken) = ((None, "lock m - 0\n"), (Some(A), "lock m a 0\n"));
     for (calls, first, second, left) in [
-        ("call a lock m\ncall a unlock m\n", GOT, DONE, free),
-        ("call a lock m\ncall a lock m\n", GOT, HELD, taken),
-        ("call a unlock m\ncall a lock m\n", NOT_HELD, GOT, taken),
+        ("call a lock m\ncall a unlock m\n", FAST, FREE, free),
+        ("call a lock m\ncall a lock m\n", FAST, HELD, taken),
+        ("call a unlock m\ncall a lock m\n", NOT_HELD, FAST, taken),
     ] {
         let text = format!(in rt.alloc(); "rtscript 1\ntask a 50 0\nlock m mutex\n{calls}go\n")?;
         assert!(rt; text.len() < 100);
         let script = read_script(rt.alloc(), text.as_bytes())?;
         let mut core = Core::new(rt.alloc(), &script)?;
-        makes(&rt, &script, &mut core, 0, first)?;
-        makes(&rt, &script, &mut core, 1, second)?;
+        makes(&rt, &script, &mut core, 0, A, first)?;
+        makes(&rt, &script, &mut core, 1, A, second)?;
         is_over(&rt, &script, &core, left.0);
-        reports(&rt, rt.alloc(), &script, &core, left.1)?;
+        let lines = ["task a 50 50 R R 2/2 end\n", left.1];
+        reports(&rt, rt.alloc(), &script, &core, lines.as_slice())?;
     }
     Ok(())
+}
+
+#[test]
+fn a_waiter_is_given_the_lock(rt: HostRuntime) -> Result<(), Fail> {
+    let text = b"rtscript 1\ntask a 50 0\ntask b 20 0\nlock m mutex\n\
+        call a lock m\ncall a unlock m\ncall b lock m\ncall b unlock m\ngo\n";
+    let script = read_script(rt.alloc(), text)?;
+    let mut core = Core::new(rt.alloc(), &script)?;
+    makes(&rt, &script, &mut core, 0, A, FAST)?;
+    makes(&rt, &script, &mut core, 1, B, MARK)?;
+    let wait = (EventKind::Wait, None, Some((A, 20)), None);
+    makes(&rt, &script, &mut core, 2, B, wait)?;
+    b_waits(&rt, &core)?;
+    let lines = [
+        "task a 50 20 R R 1/2 ready\n",
+        "task b 20 20 D R 0/2 lock m 20\n",
+        "lock m a 1 b:20\n",
+    ];
+    reports(&rt, rt.alloc(), &script, &core, lines.as_slice())?;
+    let give = (EventKind::Give, Some(B), Some((A, 50)), Some(Reply::Done));
+    makes(&rt, &script, &mut core, 3, A, give)?;
+    b_is_woken(&rt, &core);
+    assert_eq!(rt; script.locks(), 1);
+    b_may_take(&rt, core.lock(LOCK))?;
+    makes(&rt, &script, &mut core, 4, B, TAKE)?;
+    makes(&rt, &script, &mut core, 5, B, FREE)?;
+    let lines = [
+        "task a 50 50 R R 2/2 end\n",
+        "task b 20 20 R R 2/2 end\n",
+        "lock m - 0\n",
+    ];
+    reports(&rt, rt.alloc(), &script, &core, lines.as_slice())
+}
+
+#[test]
+fn two_wait_and_nobody_gets_on(rt: HostRuntime) -> Result<(), Fail> {
+    let text = b"rtscript 1\ntask a 50 0\ntask b 20 0\ntask c 10 0\nlock m mutex\n\
+        call a lock m\ncall b lock m\ncall c lock m\ngo\n";
+    let script = read_script(rt.alloc(), text)?;
+    let mut core = Core::new(rt.alloc(), &script)?;
+    makes(&rt, &script, &mut core, 0, A, FAST)?;
+    makes(&rt, &script, &mut core, 1, B, MARK)?;
+    let wait = (EventKind::Wait, None, Some((A, 20)), None);
+    makes(&rt, &script, &mut core, 2, B, wait)?;
+    makes(&rt, &script, &mut core, 3, C, MARK)?;
+    let wait = (EventKind::Wait, None, Some((A, 10)), None);
+    makes(&rt, &script, &mut core, 4, C, wait)?;
+    is_stuck(&rt, &core);
+    assert_eq!(rt; script.locks(), 1);
+    c_is_first(&rt, core.lock(LOCK));
+    let lines = [
+        "task a 50 10 R R 1/1 end\n",
+        "task b 20 20 D R 0/1 lock m 20\n",
+        "task c 10 10 D R 0/1 lock m 10\n",
+        "lock m a 1 c:10 b:20\n",
+    ];
+    reports(&rt, rt.alloc(), &script, &core, lines.as_slice())
 }
 
 // Makes the task's next event where so many are made, and compares it.
@@ -45,33 +119,121 @@ fn makes(
     rt: &impl Abort,
     script: &Script,
     core: &mut Core,
-    made: u32,
-    want: (EventKind, Reply),
+    made: u64,
+    t: TaskId,
+    want: Told,
 ) -> Result<(), Fail>
     requires { IsOf script.now core.old.state }
     ensures { IsOf script.now core.new.state }
 {
-    assert!(rt; core.tasks() == 1 && core.made() == made as u64);
-    assert_eq!(rt; core.place(TASK), made);
-    assert_eq!(rt; core.note(TASK), Note::Ready);
-    assert!(rt; !core.done() && !core.stuck());
-    let event = core.next(TASK).ok_or("no event")?;
-    assert_eq!(rt; (event.kind, event.reply), (want.0, Some(want.1)));
+    assert!(rt; t.0 < core.tasks() && core.made() == made && made < 10);
+    assert_eq!(rt; core.note(t), Note::Ready);
+    assert!(rt; !core.done() && !core.stuck() && !core.is_walking(t));
+    let event = core.next(t).ok_or("no event")?;
+    assert_eq!(rt; told(&event), want);
     core.apply(&event);
     Ok(())
 }
 
-// Compares the state at the end of the two calls.
+// What an event tells.
+fn told(e: &Event) -> Told {
+    let boost = match e.boost {
+        Some((t, prio)) => Some((t, prio.get())),
+        None => None,
+    };
+    (e.kind, e.woken, boost, e.reply)
+}
+
+// A priority of this number.
+fn prio(n: u64) -> Result<Prio, Fail> {
+    Ok(Prio::new(n).ok_or("no priority")?)
+}
+
+// Compares the state at the end of the two calls of one task.
 fn is_over(rt: &impl Abort, script: &Script, core: &Core, owner: Option<TaskId>)
     requires { IsOf script.now core.now.state }
 {
     assert!(rt; core.tasks() == 1 && script.locks() == 1 && core.made() == 2);
-    assert_eq!(rt; core.place(TASK), 2);
-    assert_eq!(rt; core.note(TASK), Note::End);
+    assert_eq!(rt; core.place(A), 2);
+    assert_eq!(rt; core.note(A), Note::End);
     assert!(rt; core.done() && !core.stuck());
-    assert_eq!(rt; core.effective(TASK).get(), 50);
-    assert_eq!(rt; core.cell(TASK).own().get(), 50);
+    assert_eq!(rt; core.effective(A).get(), 50);
+    assert_eq!(rt; core.cell(A).own().get(), 50);
     assert_eq!(rt; core.lock(LOCK).owner(), owner);
+}
+
+// The owner is boosted by the one that waits.
+fn b_waits(rt: &impl Abort, core: &Core) -> Result<(), Fail> {
+    assert!(rt; core.tasks() == 2);
+    assert_eq!(rt; core.note(B), Note::Lock(LOCK, prio(20)?));
+    assert_eq!(rt; core.effective(A).get(), 20);
+    assert_eq!(rt; core.cell(A).effective_with(LOCK, None).get(), 50);
+    assert_eq!(rt; core.cell(B).place(), Some((LOCK, prio(20)?)));
+    assert_eq!(rt; core.cell(B).blocked(), Some(LOCK));
+    assert_eq!(rt; core.cell(B).state(), TaskState::Uninterruptible);
+    assert_eq!(rt; core.lowest_enabled(), Some(A));
+    Ok(())
+}
+
+// The lock is given up, and the one that waited runs.
+fn b_is_woken(rt: &impl Abort, core: &Core) {
+    assert!(rt; core.tasks() == 2);
+    assert_eq!(rt; core.note(A), Note::End);
+    assert_eq!(rt; core.effective(A).get(), 50);
+    assert_eq!(rt; core.cell(B).state(), TaskState::Running);
+    assert_eq!(rt; core.cell(B).saved(), TaskState::Running);
+    assert!(rt; !core.cell(B).signalled());
+    assert_eq!(rt; core.lowest_enabled(), Some(B));
+}
+
+// A lock without owner goes to its top waiter, and to a better task.
+fn b_may_take(rt: &impl Abort, lock: &LockCell) -> Result<(), Fail> {
+    let (better, key, worse) = (prio(19)?, prio(20)?, prio(21)?);
+    assert_eq!(rt; lock.owner(), None);
+    assert_eq!(rt; lock.may_take(B, key), Some(Reason::Top));
+    assert_eq!(rt; lock.may_take(A, better), Some(Reason::Better));
+    assert_eq!(rt; lock.may_take(A, key), None);
+    assert_eq!(rt; (lock.key_of(A), lock.key_of(B)), (None, Some(key)));
+    assert_eq!(rt; lock.top_key(), Some(key));
+    assert_eq!(rt; lock.top_key_without(A), Some(key));
+    assert_eq!(rt; lock.top_key_without(B), None);
+    assert_eq!(rt; lock.top_key_with(A, better), better);
+    assert_eq!(rt; lock.top_key_with(A, worse), key);
+    Ok(())
+}
+
+// Two wait for a task that has no more calls.
+fn is_stuck(rt: &impl Abort, core: &Core) {
+    assert!(rt; core.tasks() == 3);
+    assert!(rt; core.stuck() && !core.done());
+    assert_eq!(rt; core.lowest_enabled(), None);
+    assert_eq!(rt; core.note(A), Note::End);
+    for t in [A, B, C] {
+        assert_eq!(rt; core.next(t), None);
+        assert_eq!(rt; core.effective(t).get(), if t == B { 20 } else { 10 });
+    }
+}
+
+// The one that came last goes first.
+fn c_is_first(rt: &impl Abort, lock: &LockCell) {
+    let first = Row {
+        key: 10,
+        ticket: 1,
+        who: 2,
+    };
+    let second = Row {
+        key: 20,
+        ticket: 0,
+        who: 1,
+    };
+    let waiters = lock.waiters();
+    assert_eq!(rt; waiters.rows(), [first, second].as_slice());
+    assert_eq!(rt; waiters.row(1), Some(second));
+    assert_eq!(rt; (waiters.top(), lock.top()), (Some(first), Some(first)));
+    assert_eq!(rt; lock.top_task(), Some(C));
+    assert_eq!(rt; lock.next_ticket(), 2);
+    assert_eq!(rt; lock.owner(), Some(A));
+    assert!(rt; lock.bit() && !lock.kind().spins());
 }
 
 // Compares the lines of the report.
@@ -80,12 +242,12 @@ fn reports(
     alloc: Global,
     script: &Script,
     core: &Core,
-    lock_line: &str,
+    lines: &[&str],
 ) -> Result<(), Fail>
     requires { IsOf script.now core.now.state }
 {
-    assert!(rt; script.tasks() == 1 && script.locks() == 1);
-    for (i, line) in ["task a 50 50 R R 2/2 end\n", lock_line].iter().enumerate() {
+    assert!(rt; lines.len() == script.tasks() as usize + script.locks() as usize);
+    for (i, line) in lines.iter().enumerate() {
         let mut out = Vec::with_capacity(alloc, 4096)?;
         core.report_line(script, i as u32, &mut out);
         assert_eq!(rt; out.as_slice(), line.as_bytes());

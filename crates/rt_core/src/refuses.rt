@@ -1,5 +1,5 @@
 ghost use Rattle.std.specs.Prelude.{◌≡◌};
-ghost use Rattle.rt_model.specs.NextEvent.{refusal};
+ghost use Rattle.rt_model.specs.NextEvent.{refusal, if_held, if_not_held};
 
 use rt_base::{Call, Kind, Reply};
 
@@ -17,40 +17,38 @@ pub fn refuses(
     ensures { result ≡ refusal call kind spinning_holds holds_it migration }
 {
     let nested = spinning_holds > 0;
-    let sleeps = match call {
-        Call::Lock(_) | Call::LockInt(_) | Call::Schedule => true,
-        Call::Read(_) | Call::Write(_) => kind == Some(Kind::RwSem),
-        _ => false,
-    };
-    if nested && sleeps {
-        return Some(Reply::Nesting);
-    }
     match call {
+        Call::Lock(_) | Call::LockInt(_) | Call::Schedule if nested => Some(Reply::Nesting),
+        Call::Read(_) | Call::Write(_) if nested && kind == Some(Kind::RwSem) => {
+            Some(Reply::Nesting)
+        }
         Call::Lock(_)
         | Call::LockInt(_)
         | Call::Spin(_)
         | Call::Local(_)
         | Call::Read(_)
-        | Call::Write(_) => {
-            if holds_it {
-                Some(Reply::Deadlock)
-            } else {
-                None
-            }
-        }
+        | Call::Write(_) => if_held(holds_it),
         Call::Unlock(_)
         | Call::Unspin(_)
         | Call::Unread(_)
         | Call::Unwrite(_)
         | Call::Downgrade(_)
-        | Call::Unlocal(_) => {
-            if holds_it {
-                None
-            } else {
-                Some(Reply::NotOwner)
-            }
-        }
+        | Call::Unlocal(_) => if_not_held(holds_it),
         Call::Move(_) if migration > 0 => Some(Reply::Pinned),
         _ => None,
     }
+}
+
+// The answer of an acquire of what may be held.
+fn if_held(held: bool) -> Option<Reply>
+    ensures { result ≡ if_held held }
+{
+    if held { Some(Reply::Deadlock) } else { None }
+}
+
+// The answer of a release of what may not be held.
+fn if_not_held(held: bool) -> Option<Reply>
+    ensures { result ≡ if_not_held held }
+{
+    if held { None } else { Some(Reply::NotOwner) }
 }

@@ -1,7 +1,7 @@
 ghost use Rattle.std.specs.Prelude.{◌≡◌, ◌+◌, ◌*◌, ◌<◌, ◌≤◌, ◌∷◌, ◌++◌, length, map, vec_len, All, IfSome};
 ghost use Rattle.std.specs.Vec.{vec_capacity};
 ghost use Rattle.rt_core.specs.Words.{spaced};
-ghost use Rattle.rt_core.specs.Report.{priority_words, progress_words, note_words, task_line_of, owner_words, reader_words, row_word, lock_line_of, IsNoteOf};
+ghost use Rattle.rt_core.specs.Report.{priority_words, progress_words, note_words, task_line_of, owner_words, reader_words, row_word, lock_line_of, IsNoteWithin};
 ghost use Rattle.rt_core.specs.Text.{end_line};
 
 use crate::append::{append, push_byte, push_digits, push_number, push_word};
@@ -38,7 +38,7 @@ pub(crate) fn write_task_line(
     out: &mut Vec<u8>,
 )
     requires task { t.0 < length script.now.tasks }
-    requires note { IsNoteOf script.now note }
+    requires note { IsNoteWithin (length script.now.tasks) (length script.now.locks) note }
     requires room { vec_len out.old + 4096 ≤ vec_capacity out.old }
     ensures text { out.new.items ≡ out.old.items ++ task_line_of script.now t cell.now thread.now note }
     ensures short { length (task_line_of script.now t cell.now thread.now note) < 4096 }
@@ -80,7 +80,7 @@ fn push_progress(cell: &TaskCell, thread: &Thread, out: &mut Vec<u8>)
 
 // Appends where a task stands.
 fn push_note(script: &Script, note: Note, out: &mut Vec<u8>)
-    requires note { IsNoteOf script.now note }
+    requires note { IsNoteWithin (length script.now.tasks) (length script.now.locks) note }
     requires room { vec_len out.old + 3 * WORD_ROOM ≤ vec_capacity out.old }
     ensures text { out.new.items ≡ out.old.items ++ spaced (note_words script.now note) }
     ensures grows { vec_len out.new ≤ vec_len out.old + 3 * WORD_ROOM }
@@ -116,27 +116,27 @@ pub(crate) fn write_lock_line(
     out: &mut Vec<u8>,
 )
     requires lock { l.0 < length script.now.locks }
-    requires owner { IfSome cell.now.owner (λ t. t.0 < length script.now.tasks) }
-    requires rows { All (λ row. row.who < length script.now.tasks) cell.now.rows }
-    requires few { length cell.now.rows ≤ 64 }
+    requires owner { IfSome cell.now.part.owner (λ t. t.0 < length script.now.tasks) }
+    requires rows { All (λ row. row.who < length script.now.tasks) cell.now.part.rows }
+    requires few { cell.now.tasks ≤ 64 }
     requires room { vec_len out.old + 4096 ≤ vec_capacity out.old }
-    ensures text { out.new.items ≡ out.old.items ++ lock_line_of script.now l cell.now readers }
-    ensures short { length (lock_line_of script.now l cell.now readers) < 4096 }
+    ensures text { out.new.items ≡ out.old.items ++ lock_line_of script.now l cell.now.part readers }
+    ensures short { length (lock_line_of script.now l cell.now.part readers) < 4096 }
     ensures capacity { vec_capacity out.old ≤ vec_capacity out.new }
 {
     append(out, b"lock");
     push_owner(script, l, cell, out);
     push_readers(cell.kind(), readers, out);
-    push_rows(script, cell.rows(), out);
+    push_rows(script, cell.waiters().rows(), out);
     push_byte(out, b'\n');
 }
 
 // Appends a lock's name, its owner and its waiters bit.
 fn push_owner(script: &Script, l: LockId, cell: &LockCell, out: &mut Vec<u8>)
     requires lock { l.0 < length script.now.locks }
-    requires owner { IfSome cell.now.owner (λ t. t.0 < length script.now.tasks) }
+    requires owner { IfSome cell.now.part.owner (λ t. t.0 < length script.now.tasks) }
     requires room { vec_len out.old + 3 * WORD_ROOM ≤ vec_capacity out.old }
-    ensures text { out.new.items ≡ out.old.items ++ spaced (owner_words script.now l cell.now) }
+    ensures text { out.new.items ≡ out.old.items ++ spaced (owner_words script.now l cell.now.part) }
     ensures grows { vec_len out.new ≤ vec_len out.old + 3 * WORD_ROOM }
     ensures capacity { vec_capacity out.old ≤ vec_capacity out.new }
 {
@@ -187,4 +187,20 @@ fn push_row(script: &Script, row: &Row, out: &mut Vec<u8>)
     push_task(script, TaskId(row.who), out);
     push_byte(out, b':');
     push_digits(out, row.key);
+}
+
+#[cfg(test)]
+mod tests {
+    use super::*;
+    use std::test::Fail;
+
+    #[test]
+    fn end_line_tells_how_it_ended(rt: HostRuntime) -> Result<(), Fail> {
+        for (ended, want) in [(Ended::Done, "end done\n"), (Ended::Stuck, "end stuck\n")] {
+            let mut out = Vec::with_capacity(rt.alloc(), 4096)?;
+            write_end_line(ended, &mut out);
+            assert_eq!(rt; out.as_slice(), want.as_bytes());
+        }
+        Ok(())
+    }
 }

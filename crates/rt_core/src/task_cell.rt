@@ -1,8 +1,10 @@
-ghost use Rattle.std.specs.Prelude.{◌≡◌, ◌<◌, length, is_some, option_map, unwrap_or, slice_get, IfOk, IsTrue};
-ghost use Rattle.rt_model.specs.Parts.{effective_of};
+ghost use Rattle.std.specs.Prelude.{◌≡◌, ◌<◌, ◌∷◌, ◌||◌, [], length, option_map, None, Some, slice_set, slice_index_or, IfOk, if◌then◌else◌};
+ghost use Rattle.rt_model.specs.Parts.{effective_of, least};
 ghost use Rattle.rt_model.specs.State.{fresh_task};
+ghost use Rattle.rt_model.specs.Steps.{with_top, blocked_on, unrested, unblocked, sleeps, woken_up, lock_state_woken, lock_woken};
 
 use crate::filled::filled;
+use crate::woken::Woken;
 use rt_base::{LockId, NoMemory, Prio, TaskState};
 use std::alloc::Global;
 use std::marker::Model;
@@ -98,5 +100,168 @@ impl TaskCell {
         ensures { result ≡ self.now.signal }
     {
         self.signal
+    }
+}
+
+// The tops that a task keeps.
+impl TaskCell {
+    /// The priority that it would run with if it kept this of a lock.
+    pub fn effective_with(&self, l: LockId, top: Option<Prio>) -> Prio
+        ensures { result ≡ effective_of (with_top (Some l) top self.now) }
+    {
+        least_with(self.own, self.kept.as_slice(), l, top)
+    }
+
+    /// Keeps the priority of a lock's top waiter, `rt_mutex_enqueue_pi`.
+    pub fn keep_top(&mut self, l: LockId, key: Prio)
+        requires { l.0 < length self.old.kept }
+        ensures { self.new ≡ with_top (Some l) (Some key) self.old }
+    {
+        self.effective = least_with(self.own, self.kept.as_slice(), l, Some(key));
+        self.kept[l.0 as usize] = Some(key);
+    }
+
+    /// Keeps nothing of a lock any more, `rt_mutex_dequeue_pi`.
+    pub fn drop_top(&mut self, l: LockId)
+        requires { l.0 < length self.old.kept }
+        ensures { self.new ≡ with_top (Some l) None self.old }
+    {
+        self.effective = least_with(self.own, self.kept.as_slice(), l, None);
+        self.kept[l.0 as usize] = None;
+    }
+
+    /// Keeps the priority of a lock's top waiter, or nothing where nobody waits, `rt_mutex_adjust_prio`.
+    pub fn refresh(&mut self, l: LockId, top: Option<Prio>)
+        requires { l.0 < length self.old.kept }
+        ensures { self.new ≡ with_top (Some l) top self.old }
+    {
+        match top {
+            Some(key) => self.keep_top(l, key),
+            None => self.drop_top(l),
+        }
+    }
+}
+
+// Waits and wakeups.
+impl TaskCell {
+    /// Waits for a lock in this state. Where that is the lock-wait state, the state before is saved,
+    /// `current_save_and_set_rtlock_wait_state`.
+    pub fn block(&mut self, l: LockId, rest: TaskState)
+        ensures { self.new ≡ blocked_on (Some l) rest self.old }
+    {
+        self.blocked = Some((l, self.effective));
+        if rest == TaskState::LockWait {
+            self.saved = self.state;
+        }
+        self.state = rest;
+    }
+
+    /// Waits for no lock any more.
+    pub fn unblock(&mut self)
+        ensures { self.new ≡ record self.old { blocked = None } }
+    {
+        self.blocked = None;
+    }
+
+    /// Goes to this state again after a wakeup that came to nothing.
+    pub fn rest_again(&mut self, rest: TaskState)
+        ensures { self.new ≡ record self.old { state = rest } }
+    {
+        self.state = rest;
+    }
+
+    /// Goes on after a wait for a lock, `current_restore_rtlock_saved_state` where its kind spins.
+    pub fn restore(&mut self, spins: bool)
+        ensures { self.new ≡ unrested spins self.old }
+    {
+        if spins {
+            self.state = self.saved;
+            self.saved = TaskState::Running;
+        } else {
+            self.state = TaskState::Running;
+        }
+    }
+
+    /// Goes on where it waited for a lock, which it doesn't any more.
+    pub fn leave_queue(&mut self, spins: bool)
+        ensures { self.new ≡ unblocked spins self.old }
+    {
+        if self.blocked.is_some() {
+            self.restore(spins);
+            self.unblock();
+        }
+    }
+
+    /// Ends a sleep, or one that is saved, `try_to_wake_up`.
+    pub fn wake(&mut self) -> Woken
+        ensures task { self.new ≡ woken_up self.old }
+        ensures woken { result ≡ (if sleeps self.old.state || sleeps self.old.saved then Woken.Woke else Woken.Missed) }
+    {
+        if sleeps(self.state) {
+            self.state = TaskState::Running;
+            Woken::Woke
+        } else if sleeps(self.saved) {
+            self.saved = TaskState::Running;
+            Woken::Woke
+        } else {
+            Woken::Missed
+        }
+    }
+
+    /// The wakeup of a lock that is given up, `rt_mutex_wake_up_q`: for a spinning kind it ends that wait alone.
+    pub fn lock_wake(&mut self, spins: bool)
+        ensures { self.new ≡ lock_woken spins self.old }
+    {
+        if spins {
+            self.state = lock_state_woken(self.state);
+        } else {
+            let _ = self.wake();
+        }
+    }
+}
+
+// The best of a priority and the kept ones, with this one in place of what is kept of a lock.
+fn least_with(own: Prio, kept: &[Option<Prio>], l: LockId, top: Option<Prio>) -> Prio
+    ensures { result ≡ least own (slice_set kept.now l.0 top) }
+{
+    let mut best = own;
+    for i in 0..kept.len() {
+        best = better(best, kept_with(kept, i, l, &top));
+    }
+    best
+}
+
+// What is kept at a place, with this in place of what is kept of a lock.
+fn kept_with(kept: &[Option<Prio>], i: usize, l: LockId, top: &Option<Prio>) -> Option<Prio>
+    requires { i < length kept.now }
+    ensures { result ≡ slice_index_or (slice_set kept.now l.0 top.now) i None }
+{
+    if i == l.0 as usize { *top } else { kept[i] }
+}
+
+// The better of a priority and a kept one.
+fn better(prio: Prio, kept: Option<Prio>) -> Prio
+    ensures { result ≡ least prio (kept ∷ []) }
+{
+    match kept {
+        Some(key) => key.min(prio),
+        None => prio,
+    }
+}
+
+// Whether it is one of the two ordinary sleeps.
+fn sleeps(state: TaskState) -> bool
+    ensures { result ≡ sleeps state }
+{
+    matches!(state, TaskState::Interruptible | TaskState::Uninterruptible)
+}
+
+// The state after the wait for a spinning lock has ended.
+fn lock_state_woken(state: TaskState) -> TaskState
+    ensures { result ≡ lock_state_woken state }
+{
+    match state {
+        TaskState::LockWait => TaskState::Running,
+        _ => state,
     }
 }

@@ -1,16 +1,16 @@
-ghost use Rattle.std.specs.Prelude.{◌≡◌, ◌≤◌, ◌<◌, ℕ, length, IfOk, IfSome, IsSome, All, Some, None};
-ghost use Rattle.rt_model.specs.Parts.{ThreadPart, call_of, hold_of};
+ghost use Rattle.std.specs.Prelude.{◌≡◌, ◌≤◌, ◌<◌, [], ◌∷◌, length, IfOk, IfSome, IsSome, All, Some, None};
+ghost use Rattle.rt_model.specs.Parts.{ThreadPart, call_of};
 ghost use Rattle.rt_model.specs.State.{fresh_thread};
 ghost use Rattle.rt_model.specs.NextEvent.{called_lock, is_held};
-ghost use Rattle.rt_model.specs.After.{thread_part_after, holds_after, with_hold};
+ghost use Rattle.rt_model.specs.After.{thread_part_after, answered_with, phase_after, phase_behind, holds_after, with_hold};
 ghost use Rattle.rt_model.specs.Laws.{IsServed};
 ghost use Rattle.rt_model.specs.Run.{is_at_end};
 ghost use Rattle.rt_model.specs.Order.{in_walk};
 ghost use Rattle.rt_core.specs.Advance.{CanAdvance};
 
 use crate::filled::filled;
-use rt_base::{Call, Cpu, LockId, NoMemory, Reply};
-use rt_model::{Event, Hold, Phase};
+use rt_base::{Call, Cpu, LockId, NoMemory, Path, Reply, TaskId};
+use rt_model::{Event, EventKind, Hold, Phase, Route};
 use std::alloc::Global;
 use std::marker::Model;
 
@@ -147,11 +147,21 @@ impl Thread {
     }
 
     /// Takes note of an event of this thread. An answer moves it to the start of its next call.
-    pub fn advance(&mut self, e: &Event)
+    pub fn advance(&mut self, e: &Event, owner_blocked: bool)
         requires { CanAdvance e.now self.old }
-        ensures { self.new ≡ thread_part_after e.now self.old }
+        ensures { self.new ≡ thread_part_after e.now owner_blocked self.old }
     {
-        let Some(reply) = e.reply else { return };
+        self.phase = phase_after(e, owner_blocked, self.phase);
+        if let Some(reply) = e.reply {
+            self.answer(reply);
+        }
+    }
+
+    // The call that the thread is at has this answer.
+    fn answer(&mut self, reply: Reply)
+        requires { IsSome (call_of self.old) }
+        ensures { self.new ≡ answered_with self.old (Some reply) }
+    {
         let Some(call) = self.call() else { return };
         self.note_answer(call, reply);
         self.answered += 1;
@@ -170,10 +180,52 @@ impl Thread {
         }
     }
 
+    // Owns a lock, or no longer does.
     fn set_owns(&mut self, l: LockId, owns: bool)
         requires { l.0 < length self.old.holds }
         ensures { self.new ≡ record self.old { holds = with_hold self.old l owns } }
     {
         self.holds[l.0 as usize].owns = owns;
     }
+}
+
+// The phase of a call that isn't answered.
+fn phase_after(e: &Event, owner_blocked: bool, phase: Phase) -> Phase
+    requires task { e.now.task.0 < 64 }
+    requires lock { IfSome e.now.lock (λ l. l.0 < 256) }
+    ensures { result ≡ phase_after e.now.kind e.now owner_blocked phase }
+{
+    match e.kind {
+        EventKind::Mark => Phase::Slow,
+        EventKind::Wait => phase_behind(e.task, e.lock, e.owner, owner_blocked),
+        _ => phase,
+    }
+}
+
+// A task that has been queued waits, and where the lock's owner is itself blocked it walks from there.
+fn phase_behind(
+    t: TaskId,
+    lock: Option<LockId>,
+    owner: Option<TaskId>,
+    owner_blocked: bool,
+) -> Phase
+    requires task { t.0 < 64 }
+    requires lock { IfSome lock (λ l. l.0 < 256) }
+    ensures { result ≡ phase_behind t lock owner owner_blocked }
+{
+    match (lock, owner) {
+        (Some(l), Some(o)) if owner_blocked => Phase::Walk(o, Route::Full(first_link(t, l))),
+        _ => Phase::Wait,
+    }
+}
+
+// The path of one link.
+fn first_link(t: TaskId, l: LockId) -> Path
+    requires task { t.0 < 64 }
+    requires lock { l.0 < 256 }
+    ensures { result ≡ (t.0, l.0) ∷ [] }
+{
+    let mut path = Path::empty();
+    path.push(t, l);
+    path
 }

@@ -21,10 +21,6 @@ lowest-found test (suc n) i lt none is = elim (below_or_at i n lt) [
   | inr at ↦ subst (λ (m : ℕ). lowest test (suc m) ≡ Some (record { 0 = i })) at (rw (none, is) refl)
 ]
 
--- one more that doesn't pass
-pub lowest-none : (test : ℕ → Bool) (n : ℕ) → lowest test n ≡ None → test n ≡ false → lowest test (suc n) ≡ None
-lowest-none test n none is = rw (none, is) refl
-
 below_at : (n : ℕ) (t : TaskId) (b : Bool) → cond b (Some (record { 0 = n })) None ≡ Some t → t.0 < suc n
 below_at n t true at = let same : record { 0 = n } ≡ t = cc in subst (λ (u : TaskId). u.0 < suc n) same (omega arith)
 below_at n t false at = cc

@@ -1,10 +1,16 @@
 pub mod Parts
+pub mod Rows
 pub mod State
+pub mod Steps
 pub mod Footprint
 pub mod NextEvent
 pub mod After
 pub mod Run
 pub mod Order
 pub mod Laws
+pub mod Holders
+pub mod Priority
+pub mod Called
+pub mod Sound
 pub use Rattle.rt_base.specs.Script
 pub use Rattle.rt_base.specs.Kind

@@ -1,5 +1,5 @@
 -- The one event that a task may make next.
-use Rattle.std.specs.Prelude.{ℕ, ◌+◌, Bool, false, ◌&&◌, ◌||◌, not, List, [], ◌∷◌, Option, Some, None, is_none, nat_lt, if◌then◌else◌}
+use Rattle.std.specs.Prelude.{ℕ, ◌+◌, Bool, false, ◌&&◌, ◌||◌, not, List, [], ◌∷◌, length, Option, Some, None, option_map, unwrap_or, is_none, nat_eq, nat_lt, if◌then◌else◌}
 use Rattle.rt_base.specs.declared.call.Call.{Call}
 use Rattle.rt_base.specs.declared.call.Call.TheVariants as calls
 use Rattle.rt_base.specs.declared.id.LockId.{LockId}
@@ -9,14 +9,19 @@ use Rattle.rt_base.specs.declared.kind.Kind.{Kind}
 use Rattle.rt_base.specs.declared.kind.Kind.TheVariants as kinds
 use Rattle.rt_base.specs.declared.reply.Reply.{Reply}
 use Rattle.rt_base.specs.declared.reply.Reply.TheVariants as replies
+use Rattle.rt_base.specs.declared.state.TaskState.{TaskState}
+use Rattle.rt_base.specs.declared.state.TaskState.TheVariants as states
 use Rattle.rt_model.specs.declared.event.Event.{Event}
 use Rattle.rt_model.specs.declared.event_kind.EventKind.{EventKind}
 use Rattle.rt_model.specs.declared.event_kind.EventKind.TheVariants as events
 use Rattle.rt_model.specs.declared.hold.Hold.{Hold}
 use Rattle.rt_model.specs.declared.phase.Phase.{Phase}
 use Rattle.rt_model.specs.declared.phase.Phase.TheVariants as phases
-use Rattle.rt_model.specs.Parts.{OwnerPart, ThreadPart, call_of, hold_of}
-use Rattle.rt_model.specs.State.{State, owner_part, thread_part}
+use Rattle.rt_model.specs.declared.row.Row.{Row}
+use Rattle.rt_model.specs.Parts.{OwnerPart, TaskPart, ThreadPart, effective_of, call_of, hold_of}
+use Rattle.rt_model.specs.Rows.{top_waiter, may_take}
+use Rattle.rt_model.specs.State.{State, owner_part, task_part, thread_part}
+use Rattle.rt_model.specs.After.{owner_part_after, own_task_after, owner_task_after}
 
 -- an event that names nothing but its task
 abbrev pub bare : TaskId → EventKind → Event
@@ -99,24 +104,70 @@ abbrev pub kind_of : State → Option LockId → Option Kind
 kind_of s None = None
 kind_of s (Some l) = Some (owner_part s l).kind
 
--- a call that doesn't try gets a lock with no owner and its bit clear at once
-abbrev pub acquire : TaskId → LockId → OwnerPart → Option Event
+-- the task's effective priority has changed from the one to the other
+abbrev pub boost_of : TaskId → ℕ → ℕ → Option (TaskId × ℕ)
+boost_of t before after = if nat_eq before after then None else Some (t, after)
+
+-- a call that doesn't try gets a lock with no owner and its bit clear at once, and else sets the bit
+abbrev pub acquire : TaskId → LockId → OwnerPart → Event
 acquire t l lock =
     if is_none lock.owner && not lock.bit
-    then Some (record (bare t events.Fast) { lock = Some l; reply = Some replies.Got })
-    else None
+    then record (bare t events.Fast) { lock = Some l; reply = Some replies.Got }
+    else record (bare t events.Mark) { lock = Some l }
 
--- a lock whose bit is clear is released at once
-abbrev pub release : TaskId → LockId → OwnerPart → Option Event
-release t l lock =
-    if not lock.bit
-    then Some (record (bare t events.Free) { lock = Some l; reply = Some replies.Done })
-    else None
+-- the task takes the lock
+abbrev pub take_event : TaskId → LockId → OwnerPart → TaskPart → Event
+take_event t l lock task =
+    let e = record (bare t events.Take) { lock = Some l; reply = Some replies.Got } in
+    let after = own_task_after events.Take e None (owner_part_after events.Take e (effective_of task) lock) task in
+    record e { boost = boost_of t (effective_of task) (effective_of after) }
 
--- a call's first event, where it isn't answered by the thread alone
+-- what a waiter changes of the priority of the lock's owner
+abbrev pub owner_boost : Event → OwnerPart → Option TaskId → TaskPart → Option (TaskId × ℕ)
+owner_boost e lock None owner = None
+owner_boost e lock (Some o) owner = boost_of o (effective_of owner) (effective_of (owner_task_after events.Wait e lock owner))
+
+-- the task is queued behind the lock's owner
+abbrev pub wait_event : TaskId → LockId → OwnerPart → TaskPart → TaskPart → Event
+wait_event t l lock task owner =
+    let e = record (bare t events.Wait) { lock = Some l; owner = lock.owner } in
+    record e { boost = owner_boost e (owner_part_after events.Wait e (effective_of task) lock) lock.owner owner }
+
+-- the task gives the lock up, and its top waiter is woken
+abbrev pub give_event : TaskId → LockId → OwnerPart → TaskPart → Event
+give_event t l lock task =
+    let e = record (bare t events.Give) { lock = Some l; woken = option_map (λ (row : Row). record { 0 = row.who }) (top_waiter lock.rows); reply = Some replies.Done } in
+    let after = own_task_after events.Give e None (owner_part_after events.Give e (effective_of task) lock) task in
+    record e { boost = boost_of t (effective_of task) (effective_of after) }
+
+-- a lock whose bit is clear is released at once, and else given up
+abbrev pub release : TaskId → LockId → OwnerPart → TaskPart → Event
+release t l lock task =
+    if lock.bit
+    then give_event t l lock task
+    else record (bare t events.Free) { lock = Some l; reply = Some replies.Done }
+
+-- a call that has set the bit takes the lock where it may, and is queued else
+abbrev pub slow_event : TaskId → LockId → OwnerPart → TaskPart → TaskPart → Event
+slow_event t l lock task owner = if may_take t lock task then take_event t l lock task else wait_event t l lock task owner
+
+-- a queued task that was woken takes the lock where it may, and else sleeps again
+abbrev pub awake_event : TaskId → LockId → OwnerPart → TaskPart → Event
+awake_event t l lock task = if may_take t lock task then take_event t l lock task else record (bare t events.Again) { lock = Some l }
+
+-- a queued task that sleeps has no event
+abbrev pub queued_event : TaskId → LockId → OwnerPart → TaskPart → TaskState → Option Event
+queued_event t l lock task states.Running = Some (awake_event t l lock task)
+queued_event t l lock task _ = None
+
+-- the public part of a lock's owner; where there is none, of a task that isn't there
+abbrev pub owner_task : State → OwnerPart → TaskPart
+owner_task s lock = task_part s (unwrap_or lock.owner (record { 0 = length s.tasks }))
+
+-- a call's first event, where it isn't answered by the thread alone; so far for the calls of a mutex that don't try
 abbrev pub first_event : State → TaskId → Call → Option Event
-first_event s t (calls.Lock l) = acquire t l (owner_part s l)
-first_event s t (calls.Unlock l) = release t l (owner_part s l)
+first_event s t (calls.Lock l) = Some (acquire t l (owner_part s l))
+first_event s t (calls.Unlock l) = Some (release t l (owner_part s l) (task_part s t))
 first_event s t _ = None
 
 -- an answer that the thread's own part gives goes before the call's first event
@@ -124,13 +175,19 @@ abbrev pub unless_refused : TaskId → Option LockId → Option Reply → Option
 unless_refused t lock (Some answer) event = Some (record (bare t events.Own) { lock = lock; reply = Some answer })
 unless_refused t lock None event = event
 
+-- the event of a call on a lock that isn't in its first phase
+abbrev pub later_event : Phase → State → TaskId → Option LockId → Option Event
+later_event phases.Slow s t (Some l) = Some (slow_event t l (owner_part s l) (task_part s t) (owner_task s (owner_part s l)))
+later_event phases.Wait s t (Some l) = queued_event t l (owner_part s l) (task_part s t) (task_part s t).state
+later_event _ s t lock = None
+
 -- the event of a call in a phase
 abbrev pub event_in : Phase → State → TaskId → ThreadPart → Call → Option Event
 event_in phases.Start s t thread call =
     let lock = called_lock thread call in
     let answer = refusal call (kind_of s lock) (spinning_holds s.locks thread.holds) (is_held thread call lock) thread.migration in
     unless_refused t lock answer (first_event s t call)
-event_in _ s t thread call = None
+event_in phase s t thread call = later_event phase s t (called_lock thread call)
 
 -- the event of the call that a thread is at
 abbrev pub event_of : State → TaskId → ThreadPart → Option Call → Option Event

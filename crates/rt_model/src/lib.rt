@@ -8,6 +8,7 @@ mod hold;
 mod obj;
 mod phase;
 mod reader_cell;
+mod reason;
 mod row;
 
 pub use event::Event;
@@ -16,4 +17,5 @@ pub use hold::Hold;
 pub use obj::Obj;
 pub use phase::{Phase, Route};
 pub use reader_cell::ReaderCell;
+pub use reason::Reason;
 pub use row::Row;

@@ -3,7 +3,7 @@
 pub struct Row {
     /// The priority that it is queued with: least first.
     pub key: u64,
-    /// When it was queued: among equal keys least first.
+    /// Drawn when it was queued: among equal keys least first.
     pub ticket: u64,
     /// The task's number.
     pub who: u32,

@@ -20,7 +20,7 @@ use Rattle.rt_script.specs.Words.{◌>>=◌, only_if, lines_of, words_of, one, t
 
 -- there is room for a task, and no lock, call or pick has come
 abbrev pub takes_task : Script → Bool
-takes_task script = length script.locks == 0 && all_calls script == 0 && length script.picks == 0 && nat_lt (length script.tasks) 1
+takes_task script = length script.locks == 0 && all_calls script == 0 && length script.picks == 0 && nat_lt (length script.tasks) 64
 
 -- there is room for a lock, and no call or pick has come
 abbrev pub takes_lock : Script → Bool

@@ -1,7 +1,7 @@
 //! How much a script may have.
 
 /// The most tasks.
-pub(crate) const MAX_TASKS: usize = 1;
+pub(crate) const MAX_TASKS: usize = 64;
 
 /// The most locks.
 pub(crate) const MAX_LOCKS: usize = 1;

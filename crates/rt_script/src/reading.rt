@@ -1,5 +1,5 @@
 ghost use Rattle.std.specs.Prelude.{◌≡◌, ◌<◌, ◌≤◌, length, IfOk, IfErr, IfSome, Some};
-ghost use Rattle.rt_base.specs.Script.{IsCallOf, IsScript, HasMutexesOnly};
+ghost use Rattle.rt_base.specs.Script.{IsCallOf, IsScript, HasOneMutex};
 ghost use Rattle.rt_script.specs.Adding.{no_lines};
 ghost use Rattle.rt_script.specs.Grammar.{cpu_of, kind_of, call_of, call_in, after_task, after_lock, after_call, after_pick, after_line, after_lines, is_end, script_of};
 ghost use Rattle.rt_script.specs.Refusing.{Gives, IsFaultOf};
@@ -213,7 +213,7 @@ pub fn read_script(alloc: Global, text: &[u8]) -> Result<Script, ScriptFault>
     requires { length text.now < 4294967295 }
     ensures script { IfOk result (λ script. script_of text.now ≡ Some script) }
     ensures valid { IfOk result IsScript }
-    ensures mutexes { IfOk result HasMutexesOnly }
+    ensures mutexes { IfOk result HasOneMutex }
     ensures fault { IfErr result (IsFaultOf (script_of text.now)) }
 {
     match read_text(alloc, text) {

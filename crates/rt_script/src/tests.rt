@@ -49,9 +49,51 @@ fn read_texts(rt: HostRuntime) {
         "rtscript 1\ntask a2345678901234_6 0 0\ngo\n",
         "rtscript 1\nlock m mutex\ngo\n",
         "rtscript 1\ntask a 7 0\npick a\npick a\ngo\n",
+        "rtscript 1\ntask a 7 0\ntask b 7 0\nlock m mutex\ncall b lock m\ncall a lock m\npick b\npick a\ngo\n",
     ] {
         assert!(rt; read_script(rt.alloc(), text.as_bytes()).is_ok(), "{text}");
     }
+}
+
+#[test]
+fn calls_of_two_tasks(rt: HostRuntime) -> Result<(), Fail> {
+    let text =
+        "rtscript 1\ntask a 90 0\ntask b 10 0\nlock m mutex\ncall b lock m\ncall a lock m\ncall b unlock m\npick b\npick a\ngo\n";
+    let script = read_script(rt.alloc(), text.as_bytes())?;
+    assert!(rt; script.tasks() == 2 && script.locks() == 1);
+    let (a, b, lock) = (TaskId(0), TaskId(1), LockId(0));
+    assert_eq!(rt; script.task_name(b), "b");
+    assert_eq!(rt; (script.own(a).get(), script.own(b).get()), (90, 10));
+    assert_eq!(rt; script.calls(a), [Call::Lock(lock)].as_slice());
+    assert_eq!(rt;
+        script.calls(b),
+        [Call::Lock(lock), Call::Unlock(lock)].as_slice()
+    );
+    assert_eq!(rt; script.picks(), [b, a].as_slice());
+    assert_eq!(rt; script.budget(), 448);
+    Ok(())
+}
+
+// A script of so many tasks.
+fn tasks_text(alloc: Global, tasks: u32) -> Result<String, Fail> {
+    let mut text = format!(in alloc; "rtscript 1\n")?;
+    for i in 0..tasks {
+        let line = format!(in alloc; "task t{i} 50 0\n")?;
+        text.push_str(&line)?;
+    }
+    text.push_str("go\n")?;
+    Ok(text)
+}
+
+#[test]
+fn at_most_64_tasks(rt: HostRuntime) -> Result<(), Fail> {
+    let most = tasks_text(rt.alloc(), 64)?;
+    let over = tasks_text(rt.alloc(), 65)?;
+    assert!(rt; most.len() < 2000 && over.len() < 2000);
+    let script = read_script(rt.alloc(), most.as_bytes())?;
+    assert_eq!(rt; script.tasks(), 64);
+    assert!(rt; read_script(rt.alloc(), over.as_bytes()).is_err());
+    Ok(())
 }
 
 #[test]
@@ -85,7 +127,8 @@ fn refused_texts(rt: HostRuntime) {
         "rtscript 1\ntask a-b 50 0\ngo\n",
         "rtscript 1\ntask a234567890123456X 50 0\ngo\n",
         "rtscript 1\ntask a2345678901234567 50 0\ngo\n",
-        "rtscript 1\ntask a 50 0\ntask b 50 0\ngo\n",
+        "rtscript 1\ntask a 50 0\ntask a 50 0\ngo\n",
+        "rtscript 1\ntask a 50 0\ntask b 50 0\ntask a 50 0\ngo\n",
         "rtscript 1\ntask a 50 0\nlock a mutex\ngo\n",
         "rtscript 1\nlock m spin\ngo\n",
         "rtscript 1\nlock m mutex\nlock n mutex\ngo\n",

@@ -7,6 +7,7 @@ use Rattle.rt_base.specs.Script.{Script, budget_of}
 use Rattle.rt_model.specs.State.{start}
 use Rattle.rt_model.specs.Run.{IsRun, after, ended_of}
 use Rattle.rt_model.specs.Order.{replayed}
+use Rattle.rt_model.specs.Sound.{IsSound}
 use Rattle.rt_script.specs.Grammar.{script_of}
 use Rattle.rt_core.specs.Text.{text_of}
 use Rattle.rt_top.specs.declared.status.Status.{Status}
@@ -34,15 +35,18 @@ pub record Input : Type 0 where
 abbrev pub max_bytes : ℕ
 max_bytes = 1048576
 
--- the replay of the script is a run, its text was written, and it ended so
+-- the replay of the script is a run, and sound; its text was written, and it ended so
 pub record IsPrinted (script : Script) (ended : Ended) (output : Output) : Type 0 where
   pub run : IsRun (start script) (replayed script (budget_of script)).events
+  pub sound : IsSound script (replayed script (budget_of script)).events
   pub text : Appends output.held_before (text_of script (replayed script (budget_of script)).events) output.held_after
   pub ends_so : ended_of (after (start script) (replayed script (budget_of script)).events) ≡ ended
 
--- the sink failed, and holds some front of the text of the script's replay
+-- the sink failed, and holds some front of the text of the script's replay, which is a run, and sound
 pub record IsCut (script : Script) (output : Output) : Type 0 where
   pub cause : Rises output.faults_before output.faults_after
+  pub run : IsRun (start script) (replayed script (budget_of script)).events
+  pub sound : IsSound script (replayed script (budget_of script)).events
   pub text : AppendsFront output.held_before (text_of script (replayed script (budget_of script)).events) output.held_after
 
 -- what an answer says of the replay of a script

@@ -12,6 +12,10 @@ pub use Rattle.rt_model.specs.After
 pub use Rattle.rt_model.specs.Run
 pub use Rattle.rt_model.specs.Order
 pub use Rattle.rt_model.specs.Laws
+pub use Rattle.rt_model.specs.Holders
+pub use Rattle.rt_model.specs.Priority
+pub use Rattle.rt_model.specs.Called
+pub use Rattle.rt_model.specs.Sound
 pub use Rattle.rt_script.specs.Grammar
 pub use Rattle.rt_core.specs.Text
 pub use Rattle.rt_core.specs.Line

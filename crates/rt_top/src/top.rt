@@ -1,6 +1,6 @@
 ghost use Rattle.std.specs.Prelude.{◌≡◌, ◌≢◌, ◌↔◌, ◌<◌, ◌≤◌, ℕ, List, map, length, string_bytes, IsTrue};
 ghost use Rattle.rt_base.specs.Outside.{Takes};
-ghost use Rattle.rt_base.specs.Script.{HasMutexesOnly, IsScript};
+ghost use Rattle.rt_base.specs.Script.{HasOneMutex, IsScript};
 ghost use Rattle.rt_top.specs.Answer.{IsAccepted, Answers, AnswersInput, Replays, IsSilent};
 ghost use Rattle.rt_top.specs.Status.{number_of};
 ghost use Rattle.rt_top.specs.declared.status.Status.{Status};
@@ -113,7 +113,7 @@ fn replay_input<K: Sink>(alloc: Global, bytes: &[u8], out: &mut K) -> Status
 // Replays a script. All memory is taken before the first byte is written.
 fn replay_script<K: Sink>(alloc: Global, script: &Script, out: &mut K) -> Status
     requires valid { IsScript script.now }
-    requires mutexes { HasMutexesOnly script.now }
+    requires mutexes { HasOneMutex script.now }
     ensures outcome { Replays result script.now (record { held_before = K.held out.old; held_after = K.held out.new; faults_before = K.faults out.old; faults_after = K.faults out.new }) }
     ensures unwritten { IsSilent result → out.new ≡ out.old }
     ensures write_count { K.faults out.old ≤ K.faults out.new }

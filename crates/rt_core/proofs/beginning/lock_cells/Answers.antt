@@ -1,4 +1,4 @@
-use Rattle.std.proofs.Common.{◌<◌, ◌∙◌, ap, length, arith}
+use Rattle.std.proofs.Common.{◌<◌, ◌∙◌, length, arith}
 use Rattle.rt_base.specs.Script.{LockLine}
 use Rattle.rt_model.specs.State.{free_lock}
 use Rattle.rt_core.proofs.Fronts.{front-more}
@@ -8,4 +8,4 @@ pub loop-l-preserved : goal.loop-l-preserved
 loop-l-preserved c =
     let locks = c.args.script.now.locks in
     let lt : c.loop-l.l < length locks = omega (arith, c.locks-l-end.ensures.number) in
-    front-more (λ (line : LockLine). free_lock line.kind) locks c.loop-l.l _ _ _ _ lt c.loop-l.invariant (c.in_ok-new.ensures ∙ ap free_lock c.kind.ensures) c.in_ok-push.ensures.items
+    front-more (λ (line : LockLine). record { part = free_lock line.kind; tasks = length c.args.script.now.tasks }) locks c.loop-l.l _ _ _ _ lt c.loop-l.invariant (c.in_ok-new.ensures ∙ (λ i. record { part = free_lock (c.kind.ensures i); tasks = c.tasks-tasks.ensures.number i })) c.in_ok-push.ensures.items

@@ -1,4 +1,5 @@
 pub mod Fronts
+pub mod FrontsAll
 pub mod StartCells
 pub mod PartsOf
 pub mod Applying

@@ -16,6 +16,7 @@ mod machine_tests;
 mod note;
 mod refuses;
 mod report;
+mod serving;
 mod task_cell;
 mod thread;
 mod waiters;

@@ -1,4 +1,4 @@
-ghost use Rattle.std.specs.Prelude.{◌≡◌, ◌<◌, ◌≤◌, ◌+◌, ◌^◌, ◌++◌, ℕ, length, false, All, Some, IfOk, IfSome, option_and_then, vec_len, vec_capacity};
+ghost use Rattle.std.specs.Prelude.{◌≡◌, ◌↔◌, ◌<◌, ◌≤◌, ◌+◌, ◌^◌, ◌++◌, ℕ, length, false, All, IsTrue, Some, IfOk, IfSome, option_and_then, vec_len, vec_capacity};
 ghost use Rattle.rt_model.specs.Parts.{call_of, effective_of};
 ghost use Rattle.rt_model.specs.State.{State, start, object, owner_part, task_part, thread_part};
 ghost use Rattle.rt_model.specs.NextEvent.{next_event, first_event, later_event, slow_event, wait_event, boost_of, owner_task, kind_of};
@@ -24,6 +24,7 @@ use crate::lock_cell::LockCell;
 use crate::note::Note;
 use crate::refuses::refuses;
 use crate::report::{write_lock_line, write_task_line};
+use crate::serving::has_one_mutex;
 use crate::task_cell::TaskCell;
 use crate::thread::Thread;
 use rt_base::{Call, Kind, LockId, NoMemory, Prio, TaskId};
@@ -62,6 +63,14 @@ const READABLE: ReaderCell = ReaderCell {
 };
 
 impl Core {
+    /// Whether the machine plays a script, so far one with one lock at most, a mutex, whose tasks only
+    /// take and release it.
+    pub fn can(script: &Script) -> bool
+        ensures { IsTrue result ↔ HasOneMutex script.now }
+    {
+        has_one_mutex(script)
+    }
+
     /// The machine in the script's start state: no holder, no waiter, every task running.
     pub fn new(alloc: Global, script: &Script) -> Result<Core, NoMemory>
         requires { HasOneMutex script.now }

@@ -47,6 +47,7 @@ fn one_task_takes_and_releases(rt: HostRuntime) -> Result<(), Fail> {
         let text = format!(in rt.alloc(); "rtscript 1\ntask a 50 0\nlock m mutex\n{calls}go\n")?;
         assert!(rt; text.len() < 100);
         let script = read_script(rt.alloc(), text.as_bytes())?;
+        assert!(rt; Core::can(&script));
         let mut core = Core::new(rt.alloc(), &script)?;
         makes(&rt, &script, &mut core, 0, A, first)?;
         makes(&rt, &script, &mut core, 1, A, second)?;
@@ -62,6 +63,7 @@ fn a_waiter_is_given_the_lock(rt: HostRuntime) -> Result<(), Fail> {
     let text = b"rtscript 1\ntask a 50 0\ntask b 20 0\nlock m mutex\n\
         call a lock m\ncall a unlock m\ncall b lock m\ncall b unlock m\ngo\n";
     let script = read_script(rt.alloc(), text)?;
+    assert!(rt; Core::can(&script));
     let mut core = Core::new(rt.alloc(), &script)?;
     makes(&rt, &script, &mut core, 0, A, FAST)?;
     makes(&rt, &script, &mut core, 1, B, MARK)?;
@@ -94,6 +96,7 @@ fn two_wait_and_nobody_gets_on(rt: HostRuntime) -> Result<(), Fail> {
     let text = b"rtscript 1\ntask a 50 0\ntask b 20 0\ntask c 10 0\nlock m mutex\n\
         call a lock m\ncall b lock m\ncall c lock m\ngo\n";
     let script = read_script(rt.alloc(), text)?;
+    assert!(rt; Core::can(&script));
     let mut core = Core::new(rt.alloc(), &script)?;
     makes(&rt, &script, &mut core, 0, A, FAST)?;
     makes(&rt, &script, &mut core, 1, B, MARK)?;
@@ -251,6 +254,35 @@ fn reports(
         let mut out = Vec::with_capacity(alloc, 4096)?;
         core.report_line(script, i as u32, &mut out);
         assert_eq!(rt; out.as_slice(), line.as_bytes());
+    }
+    Ok(())
+}
+
+// Which scripts the machine plays: one mutex at most, which is only taken and released.
+#[test]
+fn scripts_that_can_be_played(rt: HostRuntime) -> Result<(), Fail> {
+    for (lines, can) in [
+        ("", true),
+        ("cpus 8\nlock m mutex\n", true),
+        (
+            "task a 5 0\nlock m mutex\ncall a lock m\ncall a unlock m\n",
+            true,
+        ),
+        ("lock s spin\n", false),
+        ("lock l local\n", false),
+        ("lock m mutex\nlock n mutex\n", false),
+        ("task a 5 0\nlock m mutex\ncall a trylock m\n", false),
+        (
+            "task a 5 0\nlock m mutex\ncall a lock m\ncall a lockint m\n",
+            false,
+        ),
+        ("task a 5 0\ntask b 5 0\ncall b wake a\n", false),
+        ("task a 5 0\ncall a schedule\n", false),
+    ] {
+        let text = format!(in rt.alloc(); "rtscript 1\n{lines}go\n")?;
+        assert!(rt; text.len() < 1000);
+        let script = read_script(rt.alloc(), text.as_bytes())?;
+        assert_eq!(rt; Core::can(&script), can, "{lines}");
     }
     Ok(())
 }

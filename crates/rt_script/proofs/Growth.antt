@@ -1,8 +1,8 @@
 -- A script stays one when a line is added to it.
 use Rattle.std.proofs.Common.{◌≡◌, ℕ, zero, suc, ◌+◌, ◌<◌, ◌≤◌, List, [], ◌∷◌, ◌++◌, length, get_or, set, refl, sym, ap, arith, length-append, length-set}
-use Rattle.std.specs.Prelude.{None}
+use Rattle.std.specs.Prelude.{None, All}
 use Rattle.std.proofs.lemmas.Option.{unwrap_or-slice_get}
-use Rattle.std.proofs.lemmas.List.Elements.{All-push, All-weaker, All-set}
+use Rattle.std.proofs.lemmas.List.Elements.{All-nil, All-push, All-append, All-weaker, All-set}
 use Rattle.std.proofs.lemmas.List.Sums.{sum-map, sum_by_push, sum_by-set}
 use Rattle.rt_base.specs.declared.call.Call.{Call}
 use Rattle.rt_base.specs.declared.call.Call.TheVariants.{Lock, LockInt, TryLock, Unlock, Spin, TrySpin, Unspin, Read, TryRead, Unread, Write, TryWrite, Unwrite, Downgrade, Local, Unlocal, State, Schedule, Wake, Signal, SetPrio, Move}
@@ -11,7 +11,7 @@ use Rattle.rt_base.specs.declared.id.LockId.{LockId}
 use Rattle.rt_base.specs.declared.kind.Kind.{Kind}
 use Rattle.rt_base.specs.declared.kind.Kind.TheVariants as kinds
 use Rattle.rt_base.specs.Script.{Script, TaskLine, LockLine, task_line, lock_line, all_calls, IsLockOf, HasReaders, IsCallOf, IsTaskOf, IsLockWithin, IsScript}
-use Rattle.rt_script.specs.Adding.{with_task, with_lock, with_call, with_pick}
+use Rattle.rt_script.specs.Adding.{no_lines, with_cpus, with_task, with_locks, with_call, with_pick}
 
 -- ---- what a call names is still there
 
@@ -90,22 +90,36 @@ IsScript-with_task s line h room fits none =
       same,
     )
 
--- ---- a lock more
+-- ---- locks more
 
-pub IsScript-with_lock : (s : Script) (line : LockLine) → IsScript s → length s.locks < 256 → IsLockWithin s.cpus line → IsScript (with_lock s line)
-IsScript-with_lock s line h room fits =
-    let n : Script = with_lock s line in
-    let k : Keeps s n = record { cpus = refl; tasks = omega arith; locks = λ fits l h. lock_stays s.locks (line ∷ []) l.0 fits h } in
+pub IsScript-with_locks : (s : Script) (lines : List LockLine) → IsScript s → length s.locks + length lines ≤ 256 → All (IsLockWithin s.cpus) lines → IsScript (with_locks s lines)
+IsScript-with_locks s lines h room fits =
+    let n : Script = with_locks s lines in
+    let k : Keeps s n = record { cpus = refl; tasks = omega arith; locks = λ fits l h. lock_stays s.locks lines l.0 fits h } in
     record {
       cpus = h.cpus;
       tasks = h.tasks;
-      locks = omega (arith, length-append s.locks (line ∷ []));
+      locks = omega (arith, length-append s.locks lines);
       calls = h.calls;
       picks = h.picks;
       each_task = All-weaker (IsTaskOf s) (IsTaskOf n) (task_stays s n k) s.tasks h.each_task;
-      each_lock = All-push (IsLockWithin s.cpus) s.locks line h.each_lock fits;
+      each_lock = All-append (IsLockWithin s.cpus) s.locks lines h.each_lock fits;
       each_pick = h.each_pick;
     }
+
+-- ---- processors, before all lines
+
+pub IsScript-with_cpus : (n : ℕ) → 1 ≤ n → n ≤ 8 → IsScript (with_cpus no_lines n)
+IsScript-with_cpus n least most = record {
+  cpus = (least, most);
+  tasks = omega arith;
+  locks = omega arith;
+  calls = omega arith;
+  picks = omega arith;
+  each_task = All-nil (IsTaskOf (with_cpus no_lines n));
+  each_lock = All-nil (IsLockWithin n);
+  each_pick = All-nil (λ (t : TaskId). t.0 < 0);
+}
 
 -- ---- the line of a lock
 

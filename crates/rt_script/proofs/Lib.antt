@@ -1,6 +1,6 @@
 pub mod Calling
+pub mod Cells
 pub mod Growth
-pub mod Mutexes
 pub mod Naming
 pub mod Numbers
 pub mod Pieces

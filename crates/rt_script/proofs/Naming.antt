@@ -1,12 +1,13 @@
 -- What names stand for, as lines are added.
-use Rattle.std.proofs.Common.{◌≡◌, ℕ, zero, suc, ◌+◌, ◌<◌, ◌≤◌, Bool, true, false, cond, not, ◌&&◌, List, [], ◌∷◌, ◌++◌, length, get_or, set, ltb, eqb, Option, Some, None, refl, sym, ap, subst, ◌∙◌, arith, length-append, length-set}
-use Rattle.std.specs.Prelude.{position, bytes_eq, option_map, String, string_bytes, IsUtf8, IsAscii}
+use Rattle.std.proofs.Common.{◌≡◌, ℕ, zero, suc, ◌+◌, ◌<◌, ◌≤◌, Bool, true, false, cond, not, ◌&&◌, List, [], ◌∷◌, ◌++◌, length, get_or, set, ltb, eqb, Option, Some, None, refl, sym, ap, subst, ◌∙◌, arith, append_assoc, length-append, length-set}
+use Rattle.std.specs.Prelude.{All, position, bytes_eq, option_map, String, string_bytes, IsUtf8, IsAscii}
 use Rattle.std.specs.List.{position_or_len, list_all}
 use Rattle.std.specs.Option.{option_or}
 use Rattle.std.specs.HashMap.{HashMap, get_by_text}
 use Rattle.std.specs.Map.{lookup, update}
 use Rattle.std.proofs.lemmas.Bool.{false_from_ne_true}
 use Rattle.std.proofs.lemmas.Bool.Decides.{nat_tests}
+use Rattle.std.proofs.lemmas.List.Elements.{All-tail}
 use Rattle.std.proofs.lemmas.List.Sums.{prefix_len-le-length}
 use Rattle.std.proofs.lemmas.List.Folds.{position_or_len_push, position_or_len-set}
 use Rattle.std.proofs.lemmas.List.Quantifiers.{position-Some}
@@ -20,7 +21,7 @@ use Rattle.rt_base.specs.declared.id.LockId.{LockId}
 use Rattle.rt_base.specs.Script.{Script, TaskLine, LockLine, task_line}
 use Rattle.rt_script.specs.declared.named.Named.{Named}
 use Rattle.rt_script.specs.declared.named.Named.TheVariants.{Task, Lock}
-use Rattle.rt_script.specs.Adding.{no_lines, with_task, with_lock, with_call, with_pick}
+use Rattle.rt_script.specs.Adding.{no_lines, with_cpus, with_task, with_locks, with_call, with_pick}
 use Rattle.rt_script.specs.Words.{is_name_byte, is_name}
 use Rattle.rt_script.specs.Names.{the_task, the_lock, named}
 
@@ -37,6 +38,22 @@ position_push p xs y =
 
 position-set : {X : Type 0} (p : X → Bool) (xs : List X) (i : ℕ) (y d : X) → p y ≡ p (get_or xs i d) → position p (set xs i y) ≡ position p xs
 position-set p xs i y d e = rw (position_or_len-set p xs i y d e, length-set xs i y) refl
+
+twice : (a : Option ℕ) (b : Bool) (n m : ℕ) → option_or (option_or a (cond b (Some n) None)) (cond b (Some m) None) ≡ option_or a (cond b (Some n) None)
+twice (Some i) b n m = refl
+twice None true n m = refl
+twice None false n m = refl
+
+-- elements behind the others, all of which pass, or don't
+position_append : {X : Type 0} (p : X → Bool) (b : Bool) (xs : List X) (y : X) (ys : List X) → p y ≡ b → All (λ z. p z ≡ b) ys → position p (xs ++ y ∷ ys) ≡ option_or (position p xs) (cond b (Some (length xs)) None)
+position_append p b xs y [] e all = rw (position_push p xs y, e) refl
+position_append p b xs y (z ∷ zs) e all =
+    let first : p z ≡ b = all 0 z (omega arith) in
+    let others : All (λ z. p z ≡ b) zs = All-tail (λ z. p z ≡ b) z zs all in
+    let front : position p (xs ++ y ∷ []) ≡ option_or (position p xs) (cond b (Some (length xs)) None) = rw (position_push p xs y, e) refl in
+    let whole : position p ((xs ++ y ∷ []) ++ z ∷ zs) ≡ option_or (position p (xs ++ y ∷ [])) (cond b (Some (length (xs ++ y ∷ []))) None) = position_append p b (xs ++ y ∷ []) z zs first others in
+    let same : (xs ++ y ∷ []) ++ z ∷ zs ≡ xs ++ y ∷ z ∷ zs = append_assoc xs (y ∷ []) (z ∷ zs) in
+    ap (position p) (sym same) ∙ whole ∙ ap (λ (o : Option ℕ). option_or o (cond b (Some (length (xs ++ y ∷ []))) None)) front ∙ twice (position p xs) b (length xs) (length (xs ++ y ∷ []))
 
 -- ---- names of a script
 
@@ -73,13 +90,22 @@ named-with_task s line new name =
     let free : bytes_eq name line.name ≡ true → named s name ≡ None = λ e. rw ((bytes_eq-Decides name line.name).0 e) new in
     rw (position_push tasks s.tasks line, same_test line.name name) (added_task (position tasks s.tasks) (position locks s.locks) (length s.tasks) (bytes_eq name line.name) free)
 
-pub named-with_lock : (s : Script) (line : LockLine) → named s line.name ≡ None → (name : List ℕ) → named (with_lock s line) name ≡ update bytes_eq (named s) line.name (Some (the_lock (length s.locks))) name
+locks_placed : (p : LockLine → Bool) (b : Bool) (xs ys : List LockLine) → All (λ y. p y ≡ b) ys → 1 ≤ length ys → position p (xs ++ ys) ≡ option_or (position p xs) (cond b (Some (length xs)) None)
+locks_placed p b xs [] all some = absurd (omega arith)
+locks_placed p b xs (y ∷ ys) all some = position_append p b xs y ys (all 0 y (omega arith)) (All-tail (λ y. p y ≡ b) y ys all)
+
+pub named-with_locks : (s : Script) (lines : List LockLine) (key : List ℕ) → All (λ (line : LockLine). line.name ≡ key) lines → 1 ≤ length lines → named s key ≡ None → (name : List ℕ) → named (with_locks s lines) name ≡ update bytes_eq (named s) key (Some (the_lock (length s.locks))) name
 unfolding named
-named-with_lock s line new name =
+named-with_locks s lines key names some new name =
     let tasks : TaskLine → Bool = λ t. bytes_eq name t.name in
     let locks : LockLine → Bool = λ l. bytes_eq name l.name in
-    let free : bytes_eq name line.name ≡ true → named s name ≡ None = λ e. rw ((bytes_eq-Decides name line.name).0 e) new in
-    rw (position_push locks s.locks line, same_test line.name name) (added_lock (position tasks s.tasks) (position locks s.locks) (length s.locks) (bytes_eq name line.name) free)
+    let free : bytes_eq name key ≡ true → named s name ≡ None = λ e. rw ((bytes_eq-Decides name key).0 e) new in
+    let all : All (λ l. locks l ≡ bytes_eq name key) lines = λ i d in'. ap (bytes_eq name) (names i d in') in
+    rw (locks_placed locks (bytes_eq name key) s.locks lines all some, same_test key name) (added_lock (position tasks s.tasks) (position locks s.locks) (length s.locks) (bytes_eq name key) free)
+
+pub named-with_cpus : (s : Script) (n : ℕ) (name : List ℕ) → named (with_cpus s n) name ≡ named s name
+unfolding named
+named-with_cpus s n name = refl
 
 pub named-with_call : (s : Script) (t : TaskId) (call : Call) (name : List ℕ) → named (with_call s t call) name ≡ named s name
 unfolding named
@@ -143,12 +169,12 @@ names-with_task old new s line key id before after key-is id-is free name =
     let same : id ≡ record { 0 = length s.tasks } = ap (λ (i : ℕ). record { 0 = i }) id-is in
     after name ∙ rw (key-is, same, before name) (sym (named-with_task s line free name))
 
-pub names-with_lock : {Y S : Type 0} (old new : HashMap (String Y) Named S) (s : Script) (line : LockLine) (key : List ℕ) (id : LockId) → ((name : List ℕ) → get_by_text old name ≡ named s name)
-    → ((name : List ℕ) → get_by_text new name ≡ update bytes_eq (get_by_text old) key (Some (Lock id)) name) → key ≡ line.name → id.0 ≡ length s.locks → named s line.name ≡ None
-    → (name : List ℕ) → get_by_text new name ≡ named (with_lock s line) name
-names-with_lock old new s line key id before after key-is id-is free name =
+pub names-with_locks : {Y S : Type 0} (old new : HashMap (String Y) Named S) (s : Script) (lines : List LockLine) (key : List ℕ) (id : LockId) → ((name : List ℕ) → get_by_text old name ≡ named s name)
+    → ((name : List ℕ) → get_by_text new name ≡ update bytes_eq (get_by_text old) key (Some (Lock id)) name) → All (λ (line : LockLine). line.name ≡ key) lines → 1 ≤ length lines → id.0 ≡ length s.locks → named s key ≡ None
+    → (name : List ℕ) → get_by_text new name ≡ named (with_locks s lines) name
+names-with_locks old new s lines key id before after names some id-is free name =
     let same : id ≡ record { 0 = length s.locks } = ap (λ (i : ℕ). record { 0 = i }) id-is in
-    after name ∙ rw (key-is, same, before name) (sym (named-with_lock s line free name))
+    after name ∙ rw (same, before name) (sym (named-with_locks s lines key names some free name))
 
 -- ---- a name is text
 

@@ -1,10 +1,11 @@
 -- A text is cut at the first place of a byte.
-use Rattle.std.proofs.Common.{◌≡◌, ℕ, suc, ◌+◌, ◌-◌, ◌<◌, Bool, true, false, cond, List, [], ◌∷◌, length, take, drop, take_all, length-drop, drop-drop, ltb, Option, Some, None, refl, sym, ap, ◌∙◌, arith}
-use Rattle.std.specs.Prelude.{position, ◌==◌, bytes_eq, codes, if◌then◌else◌}
+use Rattle.std.proofs.Common.{◌≡◌, ℕ, suc, ◌+◌, ◌-◌, ◌<◌, ◌≤◌, Bool, true, false, cond, List, [], ◌∷◌, length, take, drop, take_all, length-drop, drop-drop, ltb, Option, Some, None, refl, sym, ap, ◌∙◌, arith}
+use Rattle.std.specs.Prelude.{position, ◌==◌}
 use Rattle.std.specs.List.{slice_split, onto_first, position_or_len}
-use Rattle.rt_base.specs.Script.{Script}
-use Rattle.rt_script.specs.Words.{◌>>=◌, only_if, lines_of}
-use Rattle.rt_script.specs.Grammar.{is_end, after_line, after_lines, script_of_lines}
+use denote.Ref.{Bor}
+use Rattle.rt_script.specs.Words.{lines_of}
+use Rattle.rt_script.specs.Fields.{lines_left}
+use Rattle.rt_script.specs.Grammar.{is_end}
 use Rattle.std.proofs.lemmas.Bool.{ltb-true, ltb-false, ne_eqb}
 use Rattle.std.proofs.lemmas.Option.{cond_some}
 use Rattle.std.proofs.lemmas.List.Sums.{fails_before_first}
@@ -52,21 +53,28 @@ is_end-lines_of (b ∷ bytes) =
     let next = some_piece (λ c. c == 10) bytes in
     not_end (b == 10) b (lines_of bytes) next.0 next.1 next.2 ∙ sym (ne_eqb (suc (length bytes)) 0 (λ e. absurd (omega arith)))
 
--- ---- line after line
+pub is_end-lines_left : (left : Option (Bor (List ℕ))) (rest : Bor (List ℕ)) → left ≡ Some rest → is_end (lines_left left) ≡ (length rest.now == 0)
+is_end-lines_left left rest e = rw e (is_end-lines_of rest.now)
 
-pub after_last_line : (script : Script) (line : List ℕ) → after_lines script (line ∷ []) ≡ None
-unfolding after_lines
-after_last_line script line = last (bytes_eq line (codes "go")) (after_line script line)
-  where
-    last : (b : Bool) (next : Option Script) → (if b then only_if (is_end []) (Some script) else next >>= λ n. None) ≡ None
-    last true next = refl
-    last false None = refl
-    last false (Some n) = refl
+-- ---- as many pieces as separators, and one more
 
-pub header_alone : (line : List ℕ) → script_of_lines (line ∷ []) ≡ None
-unfolding after_lines
-header_alone line = alone (bytes_eq line (codes "rtscript 1"))
-  where
-    alone : (b : Bool) → only_if {A = Script} b None ≡ None
-    alone true = refl
-    alone false = refl
+shorter : (b : Bool) (x : ℕ) (xs : List ℕ) (pieces : List (List ℕ)) (first0 : List ℕ) (others0 : List (List ℕ)) → pieces ≡ first0 ∷ others0 → length first0 + length others0 ≤ length xs
+    → (first : List ℕ) (others : List (List ℕ)) → cond b ([] ∷ pieces) (onto_first x pieces) ≡ first ∷ others → length first + length others ≤ suc (length xs)
+shorter true x xs pieces first0 others0 e le first others h =
+    let f : [] ≡ first = cc in
+    let o : pieces ≡ others = cc in
+    omega (arith, ap length f, ap length o, ap length e)
+shorter false x xs pieces first0 others0 e le first others h =
+    let k : (x ∷ first0) ∷ others0 ≡ first ∷ others = rw e at h in
+    let f : (x ∷ first0) ≡ first = cc in
+    let o : others0 ≡ others = cc in
+    omega (arith, ap length f, ap length o)
+
+pub pieces_fit : (p : ℕ → Bool) (xs first : List ℕ) (others : List (List ℕ)) → slice_split p xs ≡ first ∷ others → length first + length others ≤ length xs
+pieces_fit p [] first others e =
+    let f : [] ≡ first = cc in
+    let o : [] ≡ others = cc in
+    omega (arith, ap length f, ap length o)
+pieces_fit p (x ∷ xs) first others e =
+    let next = some_piece p xs in
+    shorter (p x) x xs (slice_split p xs) next.0 next.1 next.2 (pieces_fit p xs next.0 next.1 next.2) first others e

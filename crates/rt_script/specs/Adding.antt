@@ -1,5 +1,7 @@
 -- A script with one line more.
-use Rattle.std.specs.Prelude.{[], ◌∷◌, ◌++◌, slice_set}
+use Rattle.std.specs.Prelude.{ℕ, zero, suc, List, [], ◌∷◌, ◌++◌, Some, None, slice_set}
+use Rattle.rt_base.specs.declared.kind.Kind.{Kind}
+use Rattle.rt_base.specs.declared.kind.Kind.TheVariants as kinds
 use Rattle.rt_base.specs.declared.call.Call.{Call}
 use Rattle.rt_base.specs.declared.id.TaskId.{TaskId}
 use Rattle.rt_base.specs.Script.{Script, TaskLine, LockLine, task_line}
@@ -12,9 +14,23 @@ no_lines = record { cpus = 1; tasks = []; locks = []; picks = [] }
 abbrev pub with_task : Script → TaskLine → Script
 with_task script line = record script { tasks = script.tasks ++ line ∷ [] }
 
--- with a lock behind the others
-abbrev pub with_lock : Script → LockLine → Script
-with_lock script line = record script { locks = script.locks ++ line ∷ [] }
+-- with so many processors
+abbrev pub with_cpus : Script → ℕ → Script
+with_cpus script n = record script { cpus = n }
+
+-- the cells of a local lock, one for each of n processors
+abbrev pub cells_of : List ℕ → ℕ → List LockLine
+cells_of name zero = []
+cells_of name (suc n) = cells_of name n ++ record { name = name; kind = kinds.Local; cell = Some (record { 0 = n }) } ∷ []
+
+-- the locks that a line makes: a local lock one for each processor, every other kind one
+abbrev pub locks_of : ℕ → List ℕ → Kind → List LockLine
+locks_of cpus name kinds.Local = cells_of name cpus
+locks_of cpus name kind = record { name = name; kind = kind; cell = None } ∷ []
+
+-- with these locks behind the others
+abbrev pub with_locks : Script → List LockLine → Script
+with_locks script lines = record script { locks = script.locks ++ lines }
 
 -- with a call behind the others of a task
 abbrev pub with_call : Script → TaskId → Call → Script

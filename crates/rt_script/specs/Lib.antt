@@ -4,4 +4,5 @@ pub mod Fields
 pub mod Grammar
 pub mod Names
 pub mod Refusing
+pub mod Judging
 pub mod Words

@@ -1,12 +1,14 @@
 -- What names stand for.
-use Rattle.std.specs.Prelude.{ℕ, ◌&&◌, List, Option, Some, None, option_map, is_none, position, bytes_eq}
+use Rattle.std.specs.Prelude.{ℕ, List, Option, Some, None, Result, Ok, option_map, is_none, position, bytes_eq}
 use Rattle.std.specs.Option.{option_or}
 use Rattle.rt_base.specs.declared.id.TaskId.{TaskId}
 use Rattle.rt_base.specs.declared.id.LockId.{LockId}
 use Rattle.rt_base.specs.Script.{Script, TaskLine, LockLine}
 use Rattle.rt_script.specs.declared.named.Named.{Named}
 use Rattle.rt_script.specs.declared.named.Named.TheVariants.{Task, Lock}
-use Rattle.rt_script.specs.Words.{only_if, is_name}
+use Rattle.rt_script.specs.declared.fault.Why.TheVariants.{BadName, NameTwice}
+use Rattle.rt_script.specs.Judging.{Judged, provided}
+use Rattle.rt_script.specs.Words.{is_name}
 
 -- the task of a number, and the lock of a number
 abbrev pub the_task : ℕ → Named
@@ -40,5 +42,5 @@ abbrev pub lock_named : Script → List ℕ → Option LockId
 lock_named script name = only_lock (named script name)
 
 -- the word, where it has the shape of a name and stands for nothing yet
-abbrev pub new_name : Script → List ℕ → Option (List ℕ)
-new_name script word = only_if (is_name word && is_none (named script word)) (Some word)
+abbrev pub new_name : Script → List ℕ → Judged (List ℕ)
+new_name script word = provided (is_name word) BadName (provided (is_none (named script word)) NameTwice (Ok word))

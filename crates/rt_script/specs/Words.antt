@@ -1,5 +1,5 @@
 -- The lines of a text, the words of a line, and what words spell.
-use Rattle.std.specs.Prelude.{ℕ, Bool, ◌&&◌, ◌||◌, List, [], ◌∷◌, length, Option, Some, None, option_and_then, if◌then◌else◌, slice_index, ◌==◌, nat_lt, nat_le, bytes_eq, decimal}
+use Rattle.std.specs.Prelude.{ℕ, Bool, true, ◌&&◌, ◌||◌, List, [], ◌∷◌, length, Option, Some, None, option_and_then, if◌then◌else◌, slice_index, ◌==◌, nat_lt, nat_le, bytes_eq, decimal}
 use Rattle.std.specs.List.{slice_split, list_all}
 use Rattle.std.specs.Char.{is_ascii_digit, is_ascii_lowercase}
 use Rattle.std.specs.Str.Parse.{digits_value}
@@ -51,3 +51,12 @@ is_name_byte b = is_ascii_lowercase b || is_ascii_digit b || b == 95
 -- 1 to 16 such bytes, with a letter first
 abbrev pub is_name : List ℕ → Bool
 is_name word = nat_lt 0 (length word) && nat_le (length word) 16 && is_ascii_lowercase (slice_index word 0) && list_all is_name_byte word
+
+-- a printable ASCII character, the space among them
+abbrev pub is_printable : ℕ → Bool
+is_printable b = nat_le 32 b && nat_le b 126
+
+-- an empty line, or one that begins with `#`
+abbrev pub is_passed_over : List ℕ → Bool
+is_passed_over [] = true
+is_passed_over (b ∷ bytes) = b == 35

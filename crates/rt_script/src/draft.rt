@@ -1,10 +1,14 @@
-ghost use Rattle.std.specs.Prelude.{◌≡◌, ◌<◌, ◌≤◌, [], length, None, Some, IfOk, string_bytes};
-ghost use Rattle.rt_base.specs.Script.{all_calls, IsTaskOf, IsCallOf, IsCellOf};
-ghost use Rattle.rt_script.specs.Adding.{no_lines, with_task, with_lock, with_call, with_pick};
+ghost use Rattle.std.specs.Prelude.{◌≡◌, ◌+◌, ◌<◌, ◌≤◌, [], length, true, false, All, None, Ok, IfOk, string_bytes};
+ghost use Rattle.rt_base.specs.Script.{LockLine, all_calls, IsTaskOf, IsCallOf, IsLockWithin};
+ghost use Rattle.rt_script.specs.Adding.{no_lines, with_cpus, with_task, with_locks, with_call, with_pick};
+ghost use Rattle.rt_script.specs.Grammar.{SoFar};
+ghost use Rattle.rt_script.specs.Judging.{need};
 ghost use Rattle.rt_script.specs.Names.{named, task_named, lock_named, new_name};
 ghost use Rattle.rt_script.specs.Refusing.{Gives};
+ghost use Rattle.rt_script.specs.declared.fault.Why.TheVariants.{Unknown};
 
-use crate::limits::{MAX_CALLS, MAX_LOCKS, MAX_PICKS, MAX_TASKS};
+use crate::fault::Why;
+use crate::limits::{MAX_CALLS, MAX_CPUS, MAX_LOCKS, MAX_PICKS, MAX_TASKS};
 use crate::lock::Lock;
 use crate::name::is_name;
 use crate::named::Named;
@@ -17,21 +21,22 @@ use std::alloc::Global;
 use std::marker::Model;
 use std::str;
 
-/// The script that the lines read so far make, and its names.
+/// The script that the lines read so far make, its names, and whether any line was more than passed over.
 #[derive(Drop)]
 pub(crate) struct Draft {
     script: Script,
     names: IndexMap<String, Named>,
+    begun: bool,
 }
 
 impl Model for Draft {
-    ghost use Rattle.rt_base.specs.Script as base;
+    ghost use Rattle.rt_script.specs.Grammar.{SoFar};
 
-    ghost Value = { base.Script };
+    ghost Value = { SoFar };
 
-    ghost use Rattle.rt_script.specs.Fields.{script_of_draft, HasNames};
+    ghost use Rattle.rt_script.specs.Fields.{so_far_of_draft, HasNames};
 
-    ghost view = { script_of_draft };
+    ghost view = { so_far_of_draft };
 
     ghost invariant = { HasNames };
 }
@@ -39,31 +44,39 @@ impl Model for Draft {
 impl Draft {
     /// A script without lines.
     pub(crate) fn new(alloc: Global) -> Draft
-        ensures { result ≡ no_lines }
+        ensures { result ≡ record { script = no_lines; begun = false } }
     {
         Draft {
             script: Script::new(alloc),
             names: IndexMap::new(alloc),
+            begun: false,
         }
     }
 
     /// The script so far.
     pub(crate) fn script(&self) -> &Script
-        ensures { result.now ≡ self.now }
+        ensures { result.now ≡ self.now.script }
     {
         &self.script
     }
 
+    /// Whether a line that isn't passed over has come.
+    pub(crate) fn begun(&self) -> bool
+        ensures { result ≡ self.now.begun }
+    {
+        self.begun
+    }
+
     /// The script, whole.
     pub(crate) fn into_script(self) -> Script
-        ensures { result ≡ self }
+        ensures { result ≡ self.script }
     {
         self.script
     }
 
     /// What a name stands for.
     fn named(&self, name: &[u8]) -> Option<Named>
-        ensures { result ≡ named self.now name.now }
+        ensures { result ≡ named self.now.script name.now }
     {
         let names = &self.names;
         match str::from_utf8(name) {
@@ -74,52 +87,64 @@ impl Draft {
 
     /// The task of that name.
     pub(crate) fn task_named(&self, name: &[u8]) -> Result<TaskId, Refusal>
-        ensures task { Gives (λ t. t) result (task_named self.now name.now) }
-        ensures within { IfOk result (λ t. t.0 < length self.now.tasks) }
+        ensures task { Gives (λ t. t) result (need Unknown (task_named self.now.script name.now)) }
+        ensures within { IfOk result (λ t. t.0 < length self.now.script.tasks) }
     {
         match self.named(name) {
             Some(Named::Task(t)) => Ok(t),
-            Some(Named::Lock(_)) | None => Err(Refusal::Fault),
+            Some(Named::Lock(_)) | None => Err(Refusal::Fault(Why::Unknown)),
         }
     }
 
-    /// The lock of that name.
+    /// The lock of that name; the cell of processor 0 for a local one.
     pub(crate) fn lock_named(&self, name: &[u8]) -> Result<LockId, Refusal>
-        ensures lock { Gives (λ l. l) result (lock_named self.now name.now) }
-        ensures within { IfOk result (λ l. l.0 < length self.now.locks) }
+        ensures lock { Gives (λ l. l) result (need Unknown (lock_named self.now.script name.now)) }
+        ensures within { IfOk result (λ l. l.0 < length self.now.script.locks) }
     {
         match self.named(name) {
             Some(Named::Lock(l)) => Ok(l),
-            Some(Named::Task(_)) | None => Err(Refusal::Fault),
+            Some(Named::Task(_)) | None => Err(Refusal::Fault(Why::Unknown)),
         }
     }
 
     /// The name that the word declares: it has the shape of one, and stands for nothing yet.
     pub(crate) fn new_name(&self, alloc: Global, word: &[u8]) -> Result<String, Refusal>
-        ensures name { Gives string_bytes result (new_name self.now word.now) }
+        ensures name { Gives string_bytes result (new_name self.now.script word.now) }
         ensures length { IfOk result (λ name. (1 ≤ length (string_bytes name)) × (length (string_bytes name) ≤ 16)) }
-        ensures free { IfOk result (λ name. named self.now (string_bytes name) ≡ None) }
+        ensures free { IfOk result (λ name. named self.now.script (string_bytes name) ≡ None) }
     {
         if !is_name(word) {
-            return Err(Refusal::Fault);
+            return Err(Refusal::Fault(Why::BadName));
         }
         if self.named(word).is_some() {
-            return Err(Refusal::Fault);
+            return Err(Refusal::Fault(Why::NameTwice));
         }
         match str::from_utf8(word) {
             Ok(text) => Ok(String::from_str(alloc, text)?),
-            Err(_) => Err(Refusal::Fault),
+            Err(_) => Err(Refusal::Fault(Why::BadName)),
         }
+    }
+
+    /// Sets the number of processors, where nothing was read yet.
+    pub(crate) fn set_cpus(&mut self, n: u8)
+        requires positive { 1 ≤ n }
+        requires few { n ≤ MAX_CPUS }
+        requires first { self.old.begun ≡ false }
+        ensures { self.new ≡ record { script = with_cpus self.old.script n; begun = true } }
+    {
+        self.begun = true;
+        self.script.set_cpus(n);
     }
 
     /// Adds a task behind the others.
     pub(crate) fn push_task(&mut self, task: Task) -> Result<(), Refusal>
-        requires room { length self.old.tasks < MAX_TASKS }
-        requires fits { IsTaskOf self.old task }
+        requires room { length self.old.script.tasks < MAX_TASKS }
+        requires fits { IsTaskOf self.old.script task }
         requires uncalled { task.calls ≡ [] }
-        requires free { named self.old task.name ≡ None }
-        ensures { Gives (λ _. self.new) result (Some (with_task self.old task)) }
+        requires free { named self.old.script task.name ≡ None }
+        ensures { Gives (λ _. self.new) result (Ok (record { script = with_task self.old.script task; begun = true })) }
     {
+        self.begun = true;
         let id = TaskId(self.script.tasks());
         let name = task.copy_name()?;
         self.names.reserve(1)?;
@@ -128,39 +153,42 @@ impl Draft {
         Ok(())
     }
 
-    /// Adds a lock behind the others.
-    pub(crate) fn push_lock(&mut self, lock: Lock) -> Result<(), Refusal>
-        requires room { length self.old.locks < MAX_LOCKS }
-        requires name { (1 ≤ length lock.name) × (length lock.name ≤ 16) }
-        requires cell { IsCellOf self.old.cpus lock.kind lock.cell }
-        requires free { named self.old lock.name ≡ None }
-        ensures { Gives (λ _. self.new) result (Some (with_lock self.old lock)) }
+    /// Adds locks of one new name behind the others.
+    pub(crate) fn push_locks(&mut self, name: String, locks: Vec<Lock>) -> Result<(), Refusal>
+        requires room { length self.old.script.locks + length locks.items ≤ MAX_LOCKS }
+        requires some { 1 ≤ length locks.items }
+        requires names { All (λ (line : LockLine). line.name ≡ string_bytes name) locks.items }
+        requires fits { All (IsLockWithin self.old.script.cpus) locks.items }
+        requires free { named self.old.script (string_bytes name) ≡ None }
+        ensures { Gives (λ _. self.new) result (Ok (record { script = with_locks self.old.script locks.items; begun = true })) }
     {
+        self.begun = true;
         let id = LockId(self.script.locks());
-        let name = lock.copy_name()?;
         self.names.reserve(1)?;
-        self.script.push_lock(lock)?;
+        self.script.push_locks(locks)?;
         self.names.insert(name, Named::Lock(id))?;
         Ok(())
     }
 
     /// Adds a call behind the others of a task.
     pub(crate) fn push_call(&mut self, t: TaskId, call: Call) -> Result<(), Refusal>
-        requires task { t.0 < length self.old.tasks }
-        requires room { all_calls self.old < MAX_CALLS }
-        requires fits { IsCallOf self.old call }
-        ensures { Gives (λ _. self.new) result (Some (with_call self.old t call)) }
+        requires task { t.0 < length self.old.script.tasks }
+        requires room { all_calls self.old.script < MAX_CALLS }
+        requires fits { IsCallOf self.old.script call }
+        ensures { Gives (λ _. self.new) result (Ok (record { script = with_call self.old.script t call; begun = true })) }
     {
+        self.begun = true;
         self.script.push_call(t, call)?;
         Ok(())
     }
 
     /// Adds a pick behind the others.
     pub(crate) fn push_pick(&mut self, t: TaskId) -> Result<(), Refusal>
-        requires task { t.0 < length self.old.tasks }
-        requires room { length self.old.picks < MAX_PICKS }
-        ensures { Gives (λ _. self.new) result (Some (with_pick self.old t)) }
+        requires task { t.0 < length self.old.script.tasks }
+        requires room { length self.old.script.picks < MAX_PICKS }
+        ensures { Gives (λ _. self.new) result (Ok (record { script = with_pick self.old.script t; begun = true })) }
     {
+        self.begun = true;
         self.script.push_pick(t)?;
         Ok(())
     }

@@ -19,7 +19,7 @@ pub enum Why {
     BadNumber,
     /// A call that the lock's kind doesn't have.
     WrongKind,
-    /// One task, lock, call or pick more than a script may have.
+    /// The line would pass a limit of tasks, locks, calls or picks.
     TooMany,
     /// The text ends before a `go` line.
     NoGo,
@@ -30,8 +30,8 @@ pub enum Why {
 /// Why a script couldn't be read.
 #[derive(Clone, Copy, Debug, PartialEq, Eq)]
 pub enum ScriptFault {
-    /// The text is no script: the first line that is at fault, numbered from 1, or 0 where the line
-    /// isn't told, and what is wrong with it.
+    /// The text is no script: the first line that is at fault, numbered from 1, and what is wrong
+    /// with it.
     At { line: u32, why: Why },
     /// Memory ran out.
     Memory(NoMemory),

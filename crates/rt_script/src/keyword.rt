@@ -1,6 +1,7 @@
 /// The first word of a line.
 #[derive(Clone, Copy, Debug)]
 pub(crate) enum Keyword {
+    Cpus,
     Task,
     Lock,
     Call,
@@ -15,7 +16,9 @@ impl Keyword {
     pub(crate) fn read(word: &[u8]) -> Option<Keyword>
         ensures { result ≡ keyword_of word.now }
     {
-        if word == b"task".as_slice() {
+        if word == b"cpus".as_slice() {
+            Some(Keyword::Cpus)
+        } else if word == b"task".as_slice() {
             Some(Keyword::Task)
         } else if word == b"lock".as_slice() {
             Some(Keyword::Lock)

@@ -3,6 +3,7 @@
 
 mod draft;
 mod fault;
+mod form;
 mod keyword;
 mod limits;
 mod lock;

@@ -3,8 +3,8 @@
 /// The most tasks.
 pub(crate) const MAX_TASKS: usize = 64;
 
-/// The most locks.
-pub(crate) const MAX_LOCKS: usize = 1;
+/// The most locks, a local lock counting once for each processor.
+pub(crate) const MAX_LOCKS: usize = 256;
 
 /// The most calls of all tasks together.
 pub(crate) const MAX_CALLS: u32 = 16384;
@@ -17,3 +17,6 @@ pub(crate) const MAX_PRIO: u8 = 139;
 
 /// The greatest processor.
 pub(crate) const MAX_CPU: u8 = 7;
+
+/// The most processors.
+pub(crate) const MAX_CPUS: u8 = 8;

@@ -1,8 +1,7 @@
-ghost use Rattle.std.specs.Prelude.{◌≡◌, IfOk};
+ghost use Rattle.std.specs.Prelude.{◌≡◌};
 ghost use Rattle.std.specs.String.{string_bytes};
 
 use rt_base::{Cpu, Kind};
-use std::alloc::AllocError;
 use std::marker::Model;
 
 /// A lock: its line, and for a cell of a local lock its processor.
@@ -33,13 +32,6 @@ impl Lock {
         ensures { result.now ≡ self.now.name }
     {
         self.name.as_str()
-    }
-
-    /// The name as a text of its own.
-    pub(crate) fn copy_name(&self) -> Result<String, AllocError>
-        ensures { IfOk result (λ name. string_bytes name ≡ self.now.name) }
-    {
-        self.name.clone()
     }
 
     pub(crate) fn kind(&self) -> Kind

@@ -1,13 +1,14 @@
 ghost use Rattle.std.specs.Prelude.{◌≡◌};
 ghost use Rattle.rt_script.specs.declared.refusal.Refusal.TheVariants.{Memory};
 
+use crate::fault::Why;
 use std::alloc::{AllocError, AllocFailed};
 
 /// Why a line couldn't be read.
 #[derive(Clone, Copy, Debug)]
 pub(crate) enum Refusal {
-    /// The text is no script.
-    Fault,
+    /// The line is at fault.
+    Fault(Why),
     /// Memory ran out.
     Memory,
 }

@@ -1,9 +1,8 @@
-ghost use Rattle.std.specs.Prelude.{◌≡◌, ℕ, ◌<◌, ◌≤◌, List, [], ◌∷◌, ◌++◌, length, OnOk, OnErr};
+ghost use Rattle.std.specs.Prelude.{◌≡◌, ◌+◌, ◌<◌, ◌≤◌, [], length, All, OnOk, OnErr};
 ghost use Rattle.rt_base.specs.Script.{task_line, lock_line, all_calls, budget_of, IsScript, IsTaskOf, IsCallOf, IsCellOf, IsLockWithin};
-ghost use Rattle.rt_script.specs.Grammar.{takes_task, takes_lock, takes_call, takes_pick};
-ghost use Rattle.rt_script.specs.Adding.{no_lines, with_task, with_lock, with_call, with_pick};
+ghost use Rattle.rt_script.specs.Adding.{no_lines, with_cpus, with_task, with_locks, with_call, with_pick};
 
-use crate::limits::{MAX_CALLS, MAX_LOCKS, MAX_PICKS, MAX_TASKS};
+use crate::limits::{MAX_CALLS, MAX_CPUS, MAX_LOCKS, MAX_PICKS, MAX_TASKS};
 use crate::lock::Lock;
 use crate::task::Task;
 use rt_base::{Call, Cpu, Kind, LockId, Prio, TaskId};
@@ -181,15 +180,24 @@ impl Script {
         Ok(())
     }
 
-    /// Adds a lock behind the others. An `Err` changes nothing.
-    pub(crate) fn push_lock(&mut self, lock: Lock) -> Result<(), AllocError>
-        requires room { length self.old.locks < MAX_LOCKS }
-        requires name { (1 ≤ length lock.name) × (length lock.name ≤ 16) }
-        requires cell { IsCellOf self.old.cpus lock.kind lock.cell }
-        ensures ok { OnOk result (self.new ≡ with_lock self.old lock) }
+    /// Sets the number of processors, where nothing was added yet.
+    pub(crate) fn set_cpus(&mut self, n: u8)
+        requires positive { 1 ≤ n }
+        requires few { n ≤ MAX_CPUS }
+        requires empty { self.old ≡ no_lines }
+        ensures { self.new ≡ with_cpus self.old n }
+    {
+        self.cpus = n;
+    }
+
+    /// Adds locks behind the others. An `Err` changes nothing.
+    pub(crate) fn push_locks(&mut self, mut locks: Vec<Lock>) -> Result<(), AllocError>
+        requires room { length self.old.locks + length locks.items ≤ MAX_LOCKS }
+        requires fits { All (IsLockWithin self.old.cpus) locks.items }
+        ensures ok { OnOk result (self.new ≡ with_locks self.old locks.items) }
         ensures err { OnErr result (self.new ≡ self.old) }
     {
-        self.locks.push(lock)?;
+        self.locks.append(&mut locks)?;
         Ok(())
     }
 
@@ -215,36 +223,5 @@ impl Script {
     {
         self.picks.push(t)?;
         Ok(())
-    }
-
-    /// Whether a task line may come next.
-    pub(crate) fn takes_task(&self) -> bool
-        ensures { result ≡ takes_task self.now }
-    {
-        self.locks.is_empty()
-            && self.all_calls == 0
-            && self.picks.is_empty()
-            && self.tasks.len() < MAX_TASKS
-    }
-
-    /// Whether a lock line may come next.
-    pub(crate) fn takes_lock(&self) -> bool
-        ensures { result ≡ takes_lock self.now }
-    {
-        self.all_calls == 0 && self.picks.is_empty() && self.locks.len() < MAX_LOCKS
-    }
-
-    /// Whether a call line may come next.
-    pub(crate) fn takes_call(&self) -> bool
-        ensures { result ≡ takes_call self.now }
-    {
-        self.picks.is_empty() && self.all_calls < MAX_CALLS
-    }
-
-    /// Whether a pick line may come next.
-    pub(crate) fn takes_pick(&self) -> bool
-        ensures { result ≡ takes_pick self.now }
-    {
-        self.picks.len() < MAX_PICKS
     }
 }

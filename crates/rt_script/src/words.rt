@@ -1,8 +1,12 @@
 ghost use Rattle.std.specs.Prelude.{◌≡◌, ◌==◌, ◌<◌, length, IfSome, List, [], ◌∷◌, MatchOption, position};
 ghost use Rattle.std.specs.List.{slice_split};
-ghost use Rattle.rt_script.specs.Words.{words_of, one, two, three};
+ghost use Rattle.rt_script.specs.Words.{words_of, lines_of, one, two, three};
+ghost use Rattle.rt_script.specs.Judging.{need};
+ghost use Rattle.rt_script.specs.Grammar.{is_end};
+ghost use Rattle.rt_script.specs.declared.fault.Why.TheVariants.{BadLine};
 ghost use Rattle.rt_script.specs.Refusing.{Gives};
 
+use crate::fault::Why;
 use crate::refusal::Refusal;
 use std::marker::Model;
 
@@ -64,31 +68,80 @@ impl<'a> Words<'a> {
 
     /// The word that is left, if it is the only one.
     pub(crate) fn one(mut self) -> Result<&'a [u8], Refusal>
-        ensures { Gives (λ word. word.now) result (one self.entry) }
+        ensures { Gives (λ word. word.now) result (need BadLine (one self.entry)) }
     {
         match (self.next(), self.next()) {
             (Some(a), None) => Ok(a),
-            _ => Err(Refusal::Fault),
+            _ => Err(Refusal::Fault(Why::BadLine)),
         }
     }
 
     /// The words that are left, if they are two.
     pub(crate) fn two(mut self) -> Result<(&'a [u8], &'a [u8]), Refusal>
-        ensures { Gives (λ words. (words.0.now, words.1.now)) result (two self.entry) }
+        ensures { Gives (λ words. (words.0.now, words.1.now)) result (need BadLine (two self.entry)) }
     {
         match (self.next(), self.next(), self.next()) {
             (Some(a), Some(b), None) => Ok((a, b)),
-            _ => Err(Refusal::Fault),
+            _ => Err(Refusal::Fault(Why::BadLine)),
         }
     }
 
     /// The words that are left, if they are three.
     pub(crate) fn three(mut self) -> Result<(&'a [u8], &'a [u8], &'a [u8]), Refusal>
-        ensures { Gives (λ words. (words.0.now, words.1.now, words.2.now)) result (three self.entry) }
+        ensures { Gives (λ words. (words.0.now, words.1.now, words.2.now)) result (need BadLine (three self.entry)) }
     {
         match (self.next(), self.next(), self.next(), self.next()) {
             (Some(a), Some(b), Some(c), None) => Ok((a, b, c)),
-            _ => Err(Refusal::Fault),
+            _ => Err(Refusal::Fault(Why::BadLine)),
+        }
+    }
+}
+
+/// The lines of a text that are still to be read.
+#[derive(Drop)]
+pub(crate) struct Lines<'a> {
+    rest: Option<&'a [u8]>,
+}
+
+impl<'a> Model for Lines<'a> {
+    ghost use Rattle.std.specs.Prelude.{List, ℕ};
+
+    ghost Value = { List (List ℕ) };
+
+    ghost use Rattle.rt_script.specs.Fields.{lines_left};
+
+    ghost view = { λ l. lines_left l.rest };
+}
+
+impl<'a> Lines<'a> {
+    /// All lines of a text, and what stands behind the last line feed.
+    pub(crate) fn new(text: &'a [u8]) -> Lines<'a>
+        ensures { result ≡ lines_of text.now }
+    {
+        Lines { rest: Some(text) }
+    }
+
+    /// Whether nothing is left, or nothing behind the last line feed.
+    pub(crate) fn is_end(&self) -> bool
+        ensures { result ≡ is_end self.now }
+    {
+        match self.rest {
+            Some(rest) => rest.is_empty(),
+            None => true,
+        }
+    }
+
+    /// Takes the next line, where there is one.
+    pub(crate) fn next(&mut self) -> Option<&'a [u8]>
+        ensures { MatchOption result ((self.old ≡ []) × (self.new ≡ [])) (λ line. self.old ≡ line.now ∷ self.new) }
+    {
+        let text = self.rest.take()?;
+        match split_at_byte(text, b'\n') {
+            Some((line, rest)) => {
+                self.rest = Some(rest);
+                Some(line)
+            }
+            None => Some(text),
         }
     }
 }

@@ -1,14 +1,14 @@
 -- What each answer of the top call says.
-use Rattle.std.specs.Prelude.{◌≡◌, ℕ, ◌+◌, ◌≤◌, List, [], ◌∷◌, length, Option, Some, None, codes}
+use Rattle.std.specs.Prelude.{◌≡◌, ℕ, ◌+◌, ◌≤◌, List, [], ◌∷◌, length, Option, Some, None, Result, Ok, Err, codes}
 use Rattle.rt_base.specs.declared.ended.Ended.{Ended}
 use Rattle.rt_base.specs.declared.ended.Ended.TheVariants as ends
 use Rattle.rt_base.specs.Outside.{Rises, IsAtEnd, Appends, AppendsFront}
-use Rattle.rt_base.specs.Script.{Script, budget_of}
+use Rattle.rt_base.specs.Script.{Script, HasOneMutex, budget_of}
 use Rattle.rt_model.specs.State.{start}
 use Rattle.rt_model.specs.Run.{IsRun, after, ended_of}
 use Rattle.rt_model.specs.Order.{replayed}
 use Rattle.rt_model.specs.Sound.{IsSound}
-use Rattle.rt_script.specs.Grammar.{script_of}
+use Rattle.rt_script.specs.Grammar.{FaultAt, script_of}
 use Rattle.rt_core.specs.Text.{text_of}
 use Rattle.rt_top.specs.declared.status.Status.{Status}
 use Rattle.rt_top.specs.declared.status.Status.TheVariants as statuses
@@ -58,11 +58,16 @@ Replays statuses.WriteFault script output = IsCut script output
 Replays statuses.NoMemory script output = Unit {0}
 Replays _ script output = ⊥
 
--- what an answer says of an input that was read whole: no script, or a script and its replay
+-- the text is no script, or one that the machine doesn't play yet
+abbrev pub IsNotPlayed : Result Script FaultAt → Type 0
+IsNotPlayed (Err fault) = Unit {0}
+IsNotPlayed (Ok script) = HasOneMutex script → ⊥
+
+-- what an answer says of an input that was read whole: no script that is played, or a script and its replay
 abbrev pub AnswersInput : Status → List ℕ → Output → Type 0
-AnswersInput statuses.BadScript input output = script_of input ≡ None
+AnswersInput statuses.BadScript input output = IsNotPlayed (script_of input)
 AnswersInput statuses.NoMemory input output = Unit {0}
-AnswersInput status input output = (script : Script) × (script_of input ≡ Some script) × Replays status script output
+AnswersInput status input output = (script : Script) × (script_of input ≡ Ok script) × HasOneMutex script × Replays status script output
 
 -- the input was read to its end, within the limit
 pub record IsWhole (bytes : List ℕ) (input : Input) : Type 0 where

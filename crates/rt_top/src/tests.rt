@@ -481,6 +481,35 @@ fn equal_task_never_steals_a_mutex(rt: HostRuntime) -> Result<(), Fail> {
     Ok(())
 }
 
+// What a script may have beside the lines that are played, and what isn't played yet.
+#[test]
+fn which_scripts_are_played(rt: HostRuntime) -> Result<(), Fail> {
+    let rows: [(&[u8], &[u8], u8); 6] = [
+        // comments, empty lines, processors, lines that are mixed, and no line feed at the end
+        (
+            b"rtscript 1\n\n# two processors\ncpus 2\nlock m mutex\ntask a 50 1\ncall a lock m\n#\npick a\ntask b 60 0\ncall a unlock m\ngo",
+            b"rtjournal 1\n1 a fast m -> got\n2 a free m -> done\nend done\ntask a 50 50 R R 2/2 end\ntask b 60 60 R R 0/0 end\nlock m - 0\n",
+            0,
+        ),
+        // no lock at all
+        (
+            b"rtscript 1\ntask a 5 0\npick a\ngo\n",
+            b"rtjournal 1\nend done\ntask a 5 5 R R 0/0 end\n",
+            0,
+        ),
+        // a lock of another kind, two mutexes, other calls of a mutex, and a call on no lock
+        (b"rtscript 1\nlock s spin\ngo\n", b"", 3),
+        (b"rtscript 1\nlock m mutex\nlock n mutex\ngo\n", b"", 3),
+        (
+            b"rtscript 1\ntask a 5 0\nlock m mutex\ncall a trylock m\ngo\n",
+            b"",
+            3,
+        ),
+        (b"rtscript 1\ntask a 5 0\ncall a schedule\ngo\n", b"", 3),
+    ];
+    compare_replays(&rt, rt.alloc(), &rows)
+}
+
 #[test]
 fn refusals_and_faults(rt: HostRuntime) -> Result<(), Fail> {
     let alloc = rt.alloc();

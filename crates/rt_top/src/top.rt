@@ -104,7 +104,8 @@ fn replay_input<K: Sink>(alloc: Global, bytes: &[u8], out: &mut K) -> Status
     ensures write_count { K.faults out.old ≤ K.faults out.new }
 {
     match read_script(alloc, bytes) {
-        Ok(script) => replay_script(alloc, &script, out),
+        Ok(script) if Core::can(&script) => replay_script(alloc, &script, out),
+        Ok(_) => Status::BadScript,
         Err(ScriptFault::At { .. }) => Status::BadScript,
         Err(ScriptFault::Memory(_)) => Status::NoMemory,
     }

@@ -11,4 +11,5 @@ invariant_of-self-2 c =
       each = λ name. rw c.in_ok-push_task.ensures.ok
           (names-with_task c.reserve.new.self c.insert.new.self c.self.inside.script c.args.task (string_bytes c.in_ok-name.name) (record { 0 = c.tasks.result })
           (λ name. rw c.reserve.ensures.entries (c.self.invariant.each name)) after c.in_ok-name.ensures c.tasks.ensures.number free name);
+      empty = λ e. absurd cc;
     }

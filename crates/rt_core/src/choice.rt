@@ -61,7 +61,7 @@ pub fn acquire_event(t: TaskId, l: LockId, lock: &LockCell) -> Event
     }
 }
 
-/// The first event of a call that releases.
+/// The first event of a call that releases: the fast release, or `rt_mutex_slowunlock` where the bit is set.
 pub fn release_event(t: TaskId, l: LockId, lock: &LockCell, task: &TaskCell) -> Event
     ensures { result ≡ release t l lock.now.part task.now }
 {
@@ -74,7 +74,7 @@ pub fn release_event(t: TaskId, l: LockId, lock: &LockCell, task: &TaskCell) -> 
     }
 }
 
-// Gives a lock up and wakes its top waiter.
+// Gives a lock up and wakes its top waiter, `rt_mutex_slowunlock`.
 fn give_event(t: TaskId, l: LockId, lock: &LockCell, task: &TaskCell) -> Event
     ensures { result ≡ give_event t l lock.now.part task.now }
 {
@@ -86,7 +86,7 @@ fn give_event(t: TaskId, l: LockId, lock: &LockCell, task: &TaskCell) -> Event
     }
 }
 
-/// Takes a lock.
+/// Takes a lock, `try_to_take_rt_mutex` with success.
 pub fn take_event(t: TaskId, l: LockId, lock: &LockCell, task: &TaskCell) -> Event
     ensures { result ≡ take_event t l lock.now.part task.now }
 {

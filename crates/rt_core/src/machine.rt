@@ -307,7 +307,7 @@ impl Core {
         }
     }
 
-    // Is queued behind the lock's owner.
+    // Is queued behind the lock's owner, `task_blocks_on_rt_mutex`.
     fn wait_event(&self, t: TaskId, l: LockId) -> Event
         requires task { t.0 < length self.now.state.threads }
         requires lock { l.0 < length self.now.state.locks }

@@ -6,7 +6,7 @@ use rt_base::{Call, Kind, Reply};
 /// The answer that a call gets from what its own thread knows, where there is one. `spinning_holds` is
 /// how many locks of a spinning kind the thread holds, `holds_it` whether it has the hold that the call
 /// is about, and `migration` its migration count. Sleeping in an ordinary state inside a spinning kind
-/// is what `___might_sleep` warns of.
+/// is what `__might_resched` warns of.
 pub fn refuses(
     call: Call,
     kind: Option<Kind>,

@@ -1,7 +1,9 @@
 pub mod Kind
+pub mod Name
 pub mod Path
 pub mod PathLaws
 pub mod Script
+pub mod Text
 pub mod Outside
 pub mod Reading
 pub mod Kept

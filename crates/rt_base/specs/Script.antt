@@ -1,5 +1,5 @@
 -- A lock script as data: what the text of a script means, and the limits that every script keeps.
-use Rattle.std.specs.Prelude.{◌≡◌, ◌≢◌, ℕ, ◌+◌, ◌*◌, ◌<◌, ◌≤◌, List, [], length, Option, Some, None, unwrap_or, map, sum, slice_get, All}
+use Rattle.std.specs.Prelude.{◌≡◌, ◌≢◌, ℕ, zero, suc, ◌+◌, ◌*◌, ◌<◌, ◌≤◌, Bool, true, ◌==◌, List, [], ◌∷◌, ◌++◌, length, Option, Some, None, unwrap_or, map, flat_map, sum, slice_get, position, bytes_eq, All}
 use Rattle.rt_base.specs.declared.call.Call.{Call}
 use Rattle.rt_base.specs.declared.call.Call.TheVariants.{Lock, LockInt, TryLock, Unlock, Spin, TrySpin, Unspin, Read, TryRead, Unread, Write, TryWrite, Unwrite, Downgrade, Local, Unlocal, State, Schedule, Wake, Signal, SetPrio, Move}
 use Rattle.rt_base.specs.declared.id.TaskId.{TaskId}
@@ -8,6 +8,7 @@ use Rattle.rt_base.specs.declared.id.Cpu.{Cpu}
 use Rattle.rt_base.specs.declared.kind.Kind.{Kind}
 use Rattle.rt_base.specs.declared.kind.Kind.TheVariants as kinds
 use Rattle.rt_base.specs.declared.state.TaskState.TheVariants.{LockWait}
+use Rattle.rt_base.specs.Name.{is_name}
 
 -- a task line, with the calls that the call lines give the task
 pub record TaskLine : Type 0 where
@@ -45,13 +46,62 @@ all_calls script = sum (map (λ (t : TaskLine). length t.calls) script.tasks)
 abbrev pub budget_of : Script → ℕ
 budget_of script = 16 * (length script.tasks + 2) * (length script.tasks + all_calls script + 2)
 
--- a lock of the script, of a kind that passes the test
-abbrev pub IsLockOf : Script → (Kind → Type 0) → LockId → Type 0
+-- ---- names
+
+-- the task of that name, by its number
+abbrev pub task_place : Script → List ℕ → Option ℕ
+task_place script name = position (λ (t : TaskLine). bytes_eq name t.name) script.tasks
+
+-- the first lock of that name, by its number
+abbrev pub lock_place : Script → List ℕ → Option ℕ
+lock_place script name = position (λ (l : LockLine). bytes_eq name l.name) script.locks
+
+-- no cell, or the cell of processor 0
+abbrev pub is_first_cell : Option Cpu → Bool
+is_first_cell None = true
+is_first_cell (Some cpu) = cpu.0 == 0
+
+-- a name stands for one task, or for one lock with all its cells
+pub record HasOwnNames (script : Script) : Type 0 where
+  pub task : (t : TaskId) → t.0 < length script.tasks → task_place script (task_line script t).name ≡ Some t.0
+  pub lock : (l : LockId) → l.0 < length script.locks → is_first_cell (lock_line script l).cell ≡ true → lock_place script (lock_line script l).name ≡ Some l.0
+  pub apart : (l : LockId) → l.0 < length script.locks → task_place script (lock_line script l).name ≡ None
+
+-- ---- locks
+
+-- the cells of a local lock, one for each of n processors
+abbrev pub cells_of : List ℕ → ℕ → List LockLine
+cells_of name zero = []
+cells_of name (suc n) = cells_of name n ++ record { name = name; kind = kinds.Local; cell = Some (record { 0 = n }) } ∷ []
+
+-- the locks that a line makes: a local lock one for each processor, every other kind one
+abbrev pub locks_of : ℕ → List ℕ → Kind → List LockLine
+locks_of cpus name kinds.Local = cells_of name cpus
+locks_of cpus name kind = record { name = name; kind = kind; cell = None } ∷ []
+
+-- the locks that lines of these names and kinds make, one line behind the other
+abbrev pub locks_of_lines : ℕ → List (List ℕ × Kind) → List LockLine
+locks_of_lines cpus lines = flat_map (λ line. locks_of cpus line.0 line.1) lines
+
+-- lock lines make the locks, so the cells of a local lock stand side by side
+abbrev pub HasWholeLocks : Script → Type 0
+HasWholeLocks script = (lines : List (List ℕ × Kind)) × (script.locks ≡ locks_of_lines script.cpus lines)
+
+-- ---- calls
+
+-- a lock of the script, whose line passes the test
+abbrev pub IsLockOf : Script → (LockLine → Type 0) → LockId → Type 0
 IsLockOf script fits l = IfSomeLine (slice_get script.locks l.0)
   where
     IfSomeLine : Option LockLine → Type 0
     IfSomeLine None = ⊥
-    IfSomeLine (Some line) = fits line.kind
+    IfSomeLine (Some line) = fits line
+
+abbrev pub IsMutex : LockLine → Type 0
+IsMutex line = line.kind ≡ kinds.Mutex
+
+abbrev pub IsSpin : LockLine → Type 0
+IsSpin line = line.kind ≡ kinds.Spin
 
 -- the kinds that reader/writer calls are for
 abbrev pub HasReaders : Kind → Type 0
@@ -61,24 +111,31 @@ HasReaders kinds.Mutex = ⊥
 HasReaders kinds.Spin = ⊥
 HasReaders kinds.Local = ⊥
 
+abbrev pub IsReaderLock : LockLine → Type 0
+IsReaderLock line = HasReaders line.kind
+
+-- a local lock, by its cell of processor 0
+abbrev pub IsLocal : LockLine → Type 0
+IsLocal line = (line.kind ≡ kinds.Local) × (line.cell ≡ Some (record { 0 = 0 }))
+
 -- what the call names is in the script, and the lock's kind has the call
 abbrev pub IsCallOf : Script → Call → Type 0
-IsCallOf script (Lock l) = IsLockOf script (λ kind. kind ≡ kinds.Mutex) l
-IsCallOf script (LockInt l) = IsLockOf script (λ kind. kind ≡ kinds.Mutex) l
-IsCallOf script (TryLock l) = IsLockOf script (λ kind. kind ≡ kinds.Mutex) l
-IsCallOf script (Unlock l) = IsLockOf script (λ kind. kind ≡ kinds.Mutex) l
-IsCallOf script (Spin l) = IsLockOf script (λ kind. kind ≡ kinds.Spin) l
-IsCallOf script (TrySpin l) = IsLockOf script (λ kind. kind ≡ kinds.Spin) l
-IsCallOf script (Unspin l) = IsLockOf script (λ kind. kind ≡ kinds.Spin) l
-IsCallOf script (Read l) = IsLockOf script HasReaders l
-IsCallOf script (TryRead l) = IsLockOf script HasReaders l
-IsCallOf script (Unread l) = IsLockOf script HasReaders l
-IsCallOf script (Write l) = IsLockOf script HasReaders l
-IsCallOf script (TryWrite l) = IsLockOf script HasReaders l
-IsCallOf script (Unwrite l) = IsLockOf script HasReaders l
-IsCallOf script (Downgrade l) = IsLockOf script HasReaders l
-IsCallOf script (Local l) = IsLockOf script (λ kind. kind ≡ kinds.Local) l
-IsCallOf script (Unlocal l) = IsLockOf script (λ kind. kind ≡ kinds.Local) l
+IsCallOf script (Lock l) = IsLockOf script IsMutex l
+IsCallOf script (LockInt l) = IsLockOf script IsMutex l
+IsCallOf script (TryLock l) = IsLockOf script IsMutex l
+IsCallOf script (Unlock l) = IsLockOf script IsMutex l
+IsCallOf script (Spin l) = IsLockOf script IsSpin l
+IsCallOf script (TrySpin l) = IsLockOf script IsSpin l
+IsCallOf script (Unspin l) = IsLockOf script IsSpin l
+IsCallOf script (Read l) = IsLockOf script IsReaderLock l
+IsCallOf script (TryRead l) = IsLockOf script IsReaderLock l
+IsCallOf script (Unread l) = IsLockOf script IsReaderLock l
+IsCallOf script (Write l) = IsLockOf script IsReaderLock l
+IsCallOf script (TryWrite l) = IsLockOf script IsReaderLock l
+IsCallOf script (Unwrite l) = IsLockOf script IsReaderLock l
+IsCallOf script (Downgrade l) = IsLockOf script IsReaderLock l
+IsCallOf script (Local l) = IsLockOf script IsLocal l
+IsCallOf script (Unlocal l) = IsLockOf script IsLocal l
 IsCallOf script (State state) = state ≢ LockWait
 IsCallOf script Schedule = Unit {0}
 IsCallOf script (Wake t) = t.0 < length script.tasks
@@ -86,9 +143,11 @@ IsCallOf script (Signal t) = t.0 < length script.tasks
 IsCallOf script (SetPrio t prio) = (t.0 < length script.tasks) × (prio ≤ 139)
 IsCallOf script (Move cpu) = cpu.0 < script.cpus
 
--- a task's name, own priority, processor and calls are in range
+-- ---- scripts
+
+-- a task's name has the shape of one, and its own priority, processor and calls are in range
 pub record IsTaskOf (script : Script) (task : TaskLine) : Type 0 where
-  pub name : (1 ≤ length task.name) × (length task.name ≤ 16)
+  pub name : is_name task.name ≡ true
   pub own : task.own ≤ 139
   pub cpu : task.cpu.0 < script.cpus
   pub calls : All (IsCallOf script) task.calls
@@ -102,12 +161,12 @@ IsCellOf cpus kinds.Spin cell = cell ≡ None
 IsCellOf cpus kinds.RwLock cell = cell ≡ None
 IsCellOf cpus kinds.RwSem cell = cell ≡ None
 
--- a lock's name is in range, and so is the processor of a cell
+-- a lock's name has the shape of one, and the processor of a cell is in range
 pub record IsLockWithin (cpus : ℕ) (lock : LockLine) : Type 0 where
-  pub name : (1 ≤ length lock.name) × (length lock.name ≤ 16)
+  pub name : is_name lock.name ≡ true
   pub cell : IsCellOf cpus lock.kind lock.cell
 
--- the script keeps its limits, and names nothing that it doesn't have
+-- the script keeps its limits, and names nothing that it doesn't have; its names differ, and its locks are whole
 pub record IsScript (script : Script) : Type 0 where
   pub cpus : (1 ≤ script.cpus) × (script.cpus ≤ 8)
   pub tasks : length script.tasks ≤ 64
@@ -117,6 +176,8 @@ pub record IsScript (script : Script) : Type 0 where
   pub each_task : All (IsTaskOf script) script.tasks
   pub each_lock : All (IsLockWithin script.cpus) script.locks
   pub each_pick : All (λ (t : TaskId). t.0 < length script.tasks) script.picks
+  pub names : HasOwnNames script
+  pub whole : HasWholeLocks script
 
 -- the call takes or releases a mutex
 abbrev pub IsMutexCall : Call → Type 0

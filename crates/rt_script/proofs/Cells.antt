@@ -4,8 +4,8 @@ use Rattle.std.specs.Prelude.{All, Some, None}
 use Rattle.std.proofs.lemmas.List.Elements.{All-push, All-nil}
 use Rattle.rt_base.specs.declared.kind.Kind.{Kind}
 use Rattle.rt_base.specs.declared.kind.Kind.TheVariants as kinds
-use Rattle.rt_base.specs.Script.{LockLine, IsLockWithin}
-use Rattle.rt_script.specs.Adding.{cells_of, locks_of}
+use Rattle.rt_base.specs.Name.{is_name}
+use Rattle.rt_base.specs.Script.{LockLine, IsLockWithin, cells_of, locks_of}
 
 -- the cell of processor n
 abbrev pub cell_at : List ℕ → ℕ → LockLine

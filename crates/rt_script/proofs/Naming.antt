@@ -22,7 +22,7 @@ use Rattle.rt_base.specs.Script.{Script, TaskLine, LockLine, task_line}
 use Rattle.rt_script.specs.declared.named.Named.{Named}
 use Rattle.rt_script.specs.declared.named.Named.TheVariants.{Task, Lock}
 use Rattle.rt_script.specs.Adding.{no_lines, with_cpus, with_task, with_locks, with_call, with_pick}
-use Rattle.rt_script.specs.Words.{is_name_byte, is_name}
+use Rattle.rt_base.specs.Name.{is_name_byte, is_name}
 use Rattle.rt_script.specs.Names.{the_task, the_lock, named}
 
 -- ---- the place of a name

@@ -18,16 +18,6 @@ with_task script line = record script { tasks = script.tasks ++ line ∷ [] }
 abbrev pub with_cpus : Script → ℕ → Script
 with_cpus script n = record script { cpus = n }
 
--- the cells of a local lock, one for each of n processors
-abbrev pub cells_of : List ℕ → ℕ → List LockLine
-cells_of name zero = []
-cells_of name (suc n) = cells_of name n ++ record { name = name; kind = kinds.Local; cell = Some (record { 0 = n }) } ∷ []
-
--- the locks that a line makes: a local lock one for each processor, every other kind one
-abbrev pub locks_of : ℕ → List ℕ → Kind → List LockLine
-locks_of cpus name kinds.Local = cells_of name cpus
-locks_of cpus name kind = record { name = name; kind = kind; cell = None } ∷ []
-
 -- with these locks behind the others
 abbrev pub with_locks : Script → List LockLine → Script
 with_locks script lines = record script { locks = script.locks ++ lines }

@@ -9,7 +9,7 @@ use Rattle.rt_base.specs.declared.kind.Kind.{Kind}
 use Rattle.rt_base.specs.declared.kind.Kind.TheVariants as kinds
 use Rattle.rt_base.specs.declared.state.TaskState.{TaskState}
 use Rattle.rt_base.specs.declared.state.TaskState.TheVariants as states
-use Rattle.rt_base.specs.Script.{Script, lock_line, all_calls}
+use Rattle.rt_base.specs.Script.{Script, lock_line, all_calls, locks_of}
 use Rattle.rt_script.specs.declared.fault.Why.{Why}
 use Rattle.rt_script.specs.declared.fault.Why.TheVariants.{NotAscii, BadHeader, BadLine, Unknown, BadNumber, WrongKind, TooMany, NoGo, AfterGo}
 use Rattle.rt_script.specs.declared.keyword.Keyword.{Keyword}
@@ -18,7 +18,7 @@ use Rattle.rt_script.specs.declared.verb.Verb.{Verb}
 use Rattle.rt_script.specs.declared.verb.Verb.TheVariants as verbs
 use Rattle.rt_script.specs.declared.verb.LockVerb.{LockVerb}
 use Rattle.rt_script.specs.declared.verb.LockVerb.TheVariants as on
-use Rattle.rt_script.specs.Adding.{no_lines, with_cpus, with_task, locks_of, with_locks, with_call, with_pick}
+use Rattle.rt_script.specs.Adding.{no_lines, with_cpus, with_task, with_locks, with_call, with_pick}
 use Rattle.rt_script.specs.Judging.{Judged, ◌>>=◌, need, provided}
 use Rattle.rt_script.specs.Names.{task_named, lock_named, new_name}
 use Rattle.rt_script.specs.Words.{only_if, lines_of, words_of, one, two, three, number_upto, is_printable, is_passed_over}

@@ -1,4 +1,5 @@
 pub mod Adding
+pub mod Canonical
 pub mod Digits
 pub mod Fields
 pub mod Grammar

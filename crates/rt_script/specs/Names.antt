@@ -1,14 +1,14 @@
 -- What names stand for.
-use Rattle.std.specs.Prelude.{ℕ, List, Option, Some, None, Result, Ok, option_map, is_none, position, bytes_eq}
+use Rattle.std.specs.Prelude.{ℕ, List, Option, Some, None, Result, Ok, option_map, is_none}
 use Rattle.std.specs.Option.{option_or}
 use Rattle.rt_base.specs.declared.id.TaskId.{TaskId}
 use Rattle.rt_base.specs.declared.id.LockId.{LockId}
-use Rattle.rt_base.specs.Script.{Script, TaskLine, LockLine}
+use Rattle.rt_base.specs.Name.{is_name}
+use Rattle.rt_base.specs.Script.{Script, task_place, lock_place}
 use Rattle.rt_script.specs.declared.named.Named.{Named}
 use Rattle.rt_script.specs.declared.named.Named.TheVariants.{Task, Lock}
 use Rattle.rt_script.specs.declared.fault.Why.TheVariants.{BadName, NameTwice}
 use Rattle.rt_script.specs.Judging.{Judged, provided}
-use Rattle.rt_script.specs.Words.{is_name}
 
 -- the task of a number, and the lock of a number
 abbrev pub the_task : ℕ → Named
@@ -19,7 +19,7 @@ the_lock i = Lock (record { 0 = i })
 
 -- the task or the lock of that name
 unfoldable pub named : Script → List ℕ → Option Named
-named script name = option_or (option_map the_task (position (λ (t : TaskLine). bytes_eq name t.name) script.tasks)) (option_map the_lock (position (λ (l : LockLine). bytes_eq name l.name) script.locks))
+named script name = option_or (option_map the_task (task_place script name)) (option_map the_lock (lock_place script name))
 
 -- the task among these
 abbrev pub only_task : Option Named → Option TaskId

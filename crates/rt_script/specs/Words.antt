@@ -1,7 +1,6 @@
 -- The lines of a text, the words of a line, and what words spell.
-use Rattle.std.specs.Prelude.{ℕ, Bool, true, ◌&&◌, ◌||◌, List, [], ◌∷◌, length, Option, Some, None, option_and_then, if◌then◌else◌, slice_index, ◌==◌, nat_lt, nat_le, bytes_eq, decimal}
+use Rattle.std.specs.Prelude.{ℕ, Bool, true, List, [], ◌∷◌, Option, Some, None, option_and_then, if◌then◌else◌, ◌==◌, nat_le, bytes_eq, decimal}
 use Rattle.std.specs.List.{slice_split, list_all}
-use Rattle.std.specs.Char.{is_ascii_digit, is_ascii_lowercase}
 use Rattle.std.specs.Str.Parse.{digits_value}
 
 -- a step that needs what another gives
@@ -43,14 +42,6 @@ number_of word = only_if (bytes_eq (decimal (digits_value 10 word)) word) (Some 
 -- the same, where it is at most that
 unfoldable pub number_upto : ℕ → List ℕ → Option ℕ
 number_upto most word = number_of word >>= λ n. only_if (nat_le n most) (Some n)
-
--- a letter a to z, a digit or `_`
-abbrev pub is_name_byte : ℕ → Bool
-is_name_byte b = is_ascii_lowercase b || is_ascii_digit b || b == 95
-
--- 1 to 16 such bytes, with a letter first
-abbrev pub is_name : List ℕ → Bool
-is_name word = nat_lt 0 (length word) && nat_le (length word) 16 && is_ascii_lowercase (slice_index word 0) && list_all is_name_byte word
 
 -- a printable ASCII character, the space among them
 abbrev pub is_printable : ℕ → Bool

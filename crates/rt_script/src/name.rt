@@ -1,6 +1,6 @@
 ghost use Rattle.std.specs.Prelude.{◌≡◌};
 ghost use Rattle.std.specs.List.{list_all};
-ghost use Rattle.rt_script.specs.Words.{is_name, is_name_byte};
+ghost use Rattle.rt_base.specs.Name.{is_name, is_name_byte};
 
 /// How many characters a name has at most.
 const MAX_NAME: usize = 16;

@@ -1,7 +1,7 @@
 ghost use Rattle.std.specs.Prelude.{◌≡◌, true, false, ◌<◌, ◌≤◌, length, Ok, IfOk, IfErr};
 ghost use Rattle.std.specs.List.{list_all};
-ghost use Rattle.rt_base.specs.Script.{IsCallOf, IsScript};
-ghost use Rattle.rt_script.specs.Adding.{no_lines, cells_of, locks_of};
+ghost use Rattle.rt_base.specs.Script.{IsCallOf, IsScript, cells_of, locks_of};
+ghost use Rattle.rt_script.specs.Adding.{no_lines};
 ghost use Rattle.rt_script.specs.Grammar.{has_form, cpus_in, cpu_of, call_of, reading_call, lock_call, state_call, wake_call, signal_call, prio_call, move_call, call_with, call_in, after_cpus, after_task, after_lock, after_call, after_pick, after_words, begun_with, after_line, ended, after_lines, script_of};
 ghost use Rattle.rt_script.specs.Judging.{need};
 ghost use Rattle.rt_script.specs.Refusing.{Gives, Reads, IsInLine, IsFaultOf};

@@ -1,5 +1,5 @@
 use Rattle.std.proofs.Common.{◌≡◌}
-use Rattle.rt_script.specs.Adding.{cells_of}
+use Rattle.rt_base.specs.Script.{cells_of}
 use Rattle.rt_script.proofs.reading.cells_of.Given as goal
 
 abbrev pub invariant-loop-k : goal.invariant-loop-k

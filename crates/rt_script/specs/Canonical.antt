@@ -1,0 +1,91 @@
+-- The text of a script as it is written: one form for each script.
+use Rattle.std.specs.Prelude.{ℕ, List, [], ◌∷◌, ◌++◌, map, filter, flat_map, codes, decimal}
+use Rattle.rt_base.specs.declared.call.Call.{Call}
+use Rattle.rt_base.specs.declared.call.Call.TheVariants as calls
+use Rattle.rt_base.specs.declared.id.LockId.{LockId}
+use Rattle.rt_base.specs.declared.id.TaskId.{TaskId}
+use Rattle.rt_base.specs.declared.kind.Kind.{Kind}
+use Rattle.rt_base.specs.declared.kind.Kind.TheVariants as kinds
+use Rattle.rt_base.specs.Script.{Script, TaskLine, LockLine, task_line, lock_line, is_first_cell}
+use Rattle.rt_base.specs.Text.{spaced, state_word}
+
+abbrev pub kind_word : Kind → List ℕ
+kind_word kinds.Mutex = codes "mutex"
+kind_word kinds.Spin = codes "spin"
+kind_word kinds.RwLock = codes "rwlock"
+kind_word kinds.RwSem = codes "rwsem"
+kind_word kinds.Local = codes "local"
+
+-- a call on a lock
+abbrev pub on_lock : Script → List ℕ → LockId → List (List ℕ)
+on_lock script verb l = verb ∷ (lock_line script l).name ∷ []
+
+-- a call on a task
+abbrev pub on_task : Script → List ℕ → TaskId → List (List ℕ)
+on_task script verb t = verb ∷ (task_line script t).name ∷ []
+
+-- the words of a call
+abbrev pub call_words : Script → Call → List (List ℕ)
+call_words script (calls.Lock l) = on_lock script (codes "lock") l
+call_words script (calls.LockInt l) = on_lock script (codes "lockint") l
+call_words script (calls.TryLock l) = on_lock script (codes "trylock") l
+call_words script (calls.Unlock l) = on_lock script (codes "unlock") l
+call_words script (calls.Spin l) = on_lock script (codes "spin") l
+call_words script (calls.TrySpin l) = on_lock script (codes "tryspin") l
+call_words script (calls.Unspin l) = on_lock script (codes "unspin") l
+call_words script (calls.Read l) = on_lock script (codes "read") l
+call_words script (calls.TryRead l) = on_lock script (codes "tryread") l
+call_words script (calls.Unread l) = on_lock script (codes "unread") l
+call_words script (calls.Write l) = on_lock script (codes "write") l
+call_words script (calls.TryWrite l) = on_lock script (codes "trywrite") l
+call_words script (calls.Unwrite l) = on_lock script (codes "unwrite") l
+call_words script (calls.Downgrade l) = on_lock script (codes "downgrade") l
+call_words script (calls.Local l) = on_lock script (codes "local") l
+call_words script (calls.Unlocal l) = on_lock script (codes "unlocal") l
+call_words script (calls.State state) = codes "state" ∷ state_word state ∷ []
+call_words script calls.Schedule = codes "schedule" ∷ []
+call_words script (calls.Wake t) = on_task script (codes "wake") t
+call_words script (calls.Signal t) = on_task script (codes "signal") t
+call_words script (calls.SetPrio t prio) = on_task script (codes "setprio") t ++ decimal prio ∷ []
+call_words script (calls.Move cpu) = codes "move" ∷ decimal cpu.0 ∷ []
+
+-- ---- lines, without their line feeds
+
+abbrev pub cpus_text : ℕ → List ℕ
+cpus_text cpus = codes "cpus" ++ spaced (decimal cpus ∷ [])
+
+abbrev pub task_text : TaskLine → List ℕ
+task_text task = codes "task" ++ spaced (task.name ∷ decimal task.own ∷ decimal task.cpu.0 ∷ [])
+
+abbrev pub lock_text : LockLine → List ℕ
+lock_text lock = codes "lock" ++ spaced (lock.name ∷ kind_word lock.kind ∷ [])
+
+abbrev pub call_text : Script → TaskLine → Call → List ℕ
+call_text script task call = codes "call" ++ spaced (task.name ∷ call_words script call)
+
+abbrev pub pick_text : Script → TaskId → List ℕ
+pick_text script t = codes "pick" ++ spaced ((task_line script t).name ∷ [])
+
+-- the locks that have a line of their own: all but the cells of a local lock behind its first
+abbrev pub lined_locks : Script → List LockLine
+lined_locks script = filter (λ (l : LockLine). is_first_cell l.cell) script.locks
+
+-- the lines of a task's calls
+abbrev pub calls_text : Script → TaskLine → List (List ℕ)
+calls_text script task = map (call_text script task) task.calls
+
+-- ---- the text
+
+-- header, processors, tasks, locks, calls task by task, picks, and `go`
+abbrev pub canonical_lines : Script → List (List ℕ)
+canonical_lines script =
+    codes "rtscript 1" ∷ cpus_text script.cpus ∷ map task_text script.tasks ++ map lock_text (lined_locks script)
+    ++ flat_map (calls_text script) script.tasks ++ map (pick_text script) script.picks ++ codes "go" ∷ []
+
+-- a line with its line feed
+abbrev pub with_line_feed : List ℕ → List ℕ
+with_line_feed line = line ++ 10 ∷ []
+
+-- each line with its line feed
+abbrev pub canonical : Script → List ℕ
+canonical script = flat_map with_line_feed (canonical_lines script)

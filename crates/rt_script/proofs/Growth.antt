@@ -1,8 +1,8 @@
 -- A script stays one when a line is added to it.
-use Rattle.std.proofs.Common.{◌≡◌, ℕ, zero, suc, ◌+◌, ◌<◌, ◌≤◌, List, [], ◌∷◌, ◌++◌, length, get_or, set, refl, sym, ap, arith, length-append, length-set}
+use Rattle.std.proofs.Common.{◌≡◌, ℕ, zero, suc, ◌+◌, ◌<◌, ◌≤◌, true, List, [], ◌∷◌, ◌++◌, length, get_or, set, refl, sym, ap, arith, length-append, length-set}
 use Rattle.std.specs.Prelude.{None, All}
 use Rattle.std.proofs.lemmas.Option.{unwrap_or-slice_get}
-use Rattle.std.proofs.lemmas.List.Elements.{All-nil, All-push, All-append, All-weaker, All-set}
+use Rattle.std.proofs.lemmas.List.Elements.{All-push, All-append, All-weaker, All-set}
 use Rattle.std.proofs.lemmas.List.Sums.{sum-map, sum_by_push, sum_by-set}
 use Rattle.rt_base.specs.declared.call.Call.{Call}
 use Rattle.rt_base.specs.declared.call.Call.TheVariants.{Lock, LockInt, TryLock, Unlock, Spin, TrySpin, Unspin, Read, TryRead, Unread, Write, TryWrite, Unwrite, Downgrade, Local, Unlocal, State, Schedule, Wake, Signal, SetPrio, Move}
@@ -10,8 +10,12 @@ use Rattle.rt_base.specs.declared.id.TaskId.{TaskId}
 use Rattle.rt_base.specs.declared.id.LockId.{LockId}
 use Rattle.rt_base.specs.declared.kind.Kind.{Kind}
 use Rattle.rt_base.specs.declared.kind.Kind.TheVariants as kinds
-use Rattle.rt_base.specs.Script.{Script, TaskLine, LockLine, task_line, lock_line, all_calls, IsLockOf, HasReaders, IsCallOf, IsTaskOf, IsLockWithin, IsScript}
-use Rattle.rt_script.specs.Adding.{no_lines, with_cpus, with_task, with_locks, with_call, with_pick}
+use Rattle.rt_base.specs.Name.{is_name}
+use Rattle.rt_base.specs.Script.{Script, TaskLine, LockLine, task_line, lock_line, all_calls, IsLockOf, IsMutex, IsSpin, IsReaderLock, IsLocal, IsCallOf, IsTaskOf, IsLockWithin, IsScript}
+use Rattle.rt_script.specs.Adding.{with_task, with_locks, with_call, with_pick}
+use Rattle.rt_script.specs.Names.{named, AreNewLocks}
+use Rattle.rt_script.proofs.Cells.{fit_of}
+use Rattle.rt_script.proofs.OwnNames.{HasOwnNames-with_task, HasOwnNames-with_locks, HasWholeLocks-with_locks, HasOwnNames-with_call}
 
 -- ---- what a call names is still there
 
@@ -19,7 +23,7 @@ use Rattle.rt_script.specs.Adding.{no_lines, with_cpus, with_task, with_locks, w
 abbrev only : List LockLine → Script
 only locks = record { cpus = 1; tasks = []; locks = locks; picks = [] }
 
-lock_stays : (xs ys : List LockLine) (i : ℕ) (fits : Kind → Type 0) → IsLockOf (only xs) fits (record { 0 = i }) → IsLockOf (only (xs ++ ys)) fits (record { 0 = i })
+lock_stays : (xs ys : List LockLine) (i : ℕ) (fits : LockLine → Type 0) → IsLockOf (only xs) fits (record { 0 = i }) → IsLockOf (only (xs ++ ys)) fits (record { 0 = i })
 lock_stays [] ys i fits h = absurd h
 lock_stays (x ∷ xs) ys zero fits h = h
 lock_stays (x ∷ xs) ys (suc i) fits h = lock_stays xs ys i fits h
@@ -28,25 +32,25 @@ lock_stays (x ∷ xs) ys (suc i) fits h = lock_stays xs ys i fits h
 record Keeps (s n : Script) : Type 1 where
   cpus : n.cpus ≡ s.cpus
   tasks : length s.tasks ≤ length n.tasks
-  locks : (fits : Kind → Type 0) (l : LockId) → IsLockOf s fits l → IsLockOf n fits l
+  locks : (fits : LockLine → Type 0) (l : LockId) → IsLockOf s fits l → IsLockOf n fits l
 
 call_stays : (s n : Script) → Keeps s n → (call : Call) → IsCallOf s call → IsCallOf n call
-call_stays s n k (Lock l) h = k.locks (λ kind. kind ≡ kinds.Mutex) l h
-call_stays s n k (LockInt l) h = k.locks (λ kind. kind ≡ kinds.Mutex) l h
-call_stays s n k (TryLock l) h = k.locks (λ kind. kind ≡ kinds.Mutex) l h
-call_stays s n k (Unlock l) h = k.locks (λ kind. kind ≡ kinds.Mutex) l h
-call_stays s n k (Spin l) h = k.locks (λ kind. kind ≡ kinds.Spin) l h
-call_stays s n k (TrySpin l) h = k.locks (λ kind. kind ≡ kinds.Spin) l h
-call_stays s n k (Unspin l) h = k.locks (λ kind. kind ≡ kinds.Spin) l h
-call_stays s n k (Read l) h = k.locks HasReaders l h
-call_stays s n k (TryRead l) h = k.locks HasReaders l h
-call_stays s n k (Unread l) h = k.locks HasReaders l h
-call_stays s n k (Write l) h = k.locks HasReaders l h
-call_stays s n k (TryWrite l) h = k.locks HasReaders l h
-call_stays s n k (Unwrite l) h = k.locks HasReaders l h
-call_stays s n k (Downgrade l) h = k.locks HasReaders l h
-call_stays s n k (Local l) h = k.locks (λ kind. kind ≡ kinds.Local) l h
-call_stays s n k (Unlocal l) h = k.locks (λ kind. kind ≡ kinds.Local) l h
+call_stays s n k (Lock l) h = k.locks IsMutex l h
+call_stays s n k (LockInt l) h = k.locks IsMutex l h
+call_stays s n k (TryLock l) h = k.locks IsMutex l h
+call_stays s n k (Unlock l) h = k.locks IsMutex l h
+call_stays s n k (Spin l) h = k.locks IsSpin l h
+call_stays s n k (TrySpin l) h = k.locks IsSpin l h
+call_stays s n k (Unspin l) h = k.locks IsSpin l h
+call_stays s n k (Read l) h = k.locks IsReaderLock l h
+call_stays s n k (TryRead l) h = k.locks IsReaderLock l h
+call_stays s n k (Unread l) h = k.locks IsReaderLock l h
+call_stays s n k (Write l) h = k.locks IsReaderLock l h
+call_stays s n k (TryWrite l) h = k.locks IsReaderLock l h
+call_stays s n k (Unwrite l) h = k.locks IsReaderLock l h
+call_stays s n k (Downgrade l) h = k.locks IsReaderLock l h
+call_stays s n k (Local l) h = k.locks IsLocal l h
+call_stays s n k (Unlocal l) h = k.locks IsLocal l h
 call_stays s n k (State state) h = h
 call_stays s n k Schedule h = tt
 call_stays s n k (Wake t) h = omega (arith, k.tasks)
@@ -70,8 +74,8 @@ all_calls-with_task s line e =
     let none : f line ≡ 0 = ap length e in
     omega (arith, sum-map f s.tasks, sum-map f (s.tasks ++ line ∷ []), sum_by_push f s.tasks line, none)
 
-pub IsScript-with_task : (s : Script) (line : TaskLine) → IsScript s → length s.tasks < 64 → IsTaskOf s line → line.calls ≡ [] → IsScript (with_task s line) × (all_calls (with_task s line) ≡ all_calls s)
-IsScript-with_task s line h room fits none =
+pub IsScript-with_task : (s : Script) (line : TaskLine) → IsScript s → length s.tasks < 64 → IsTaskOf s line → line.calls ≡ [] → named s line.name ≡ None → IsScript (with_task s line) × (all_calls (with_task s line) ≡ all_calls s)
+IsScript-with_task s line h room fits none free =
     let more : length (s.tasks ++ line ∷ []) ≡ length s.tasks + 1 = omega (arith, length-append s.tasks (line ∷ [])) in
     let n : Script = with_task s line in
     let k : Keeps s n = record { cpus = refl; tasks = omega arith; locks = λ fits l h. h } in
@@ -86,16 +90,19 @@ IsScript-with_task s line h room fits none =
         each_task = All-push (IsTaskOf n) s.tasks line (All-weaker (IsTaskOf s) (IsTaskOf n) stays s.tasks h.each_task) (stays line fits);
         each_lock = h.each_lock;
         each_pick = All-weaker (λ (t : TaskId). t.0 < length s.tasks) (λ (t : TaskId). t.0 < length (s.tasks ++ line ∷ [])) (λ t lt. omega arith) s.picks h.each_pick;
+        names = HasOwnNames-with_task s line h.names free;
+        whole = h.whole;
       },
       same,
     )
 
 -- ---- locks more
 
-pub IsScript-with_locks : (s : Script) (lines : List LockLine) → IsScript s → length s.locks + length lines ≤ 256 → All (IsLockWithin s.cpus) lines → IsScript (with_locks s lines)
-IsScript-with_locks s lines h room fits =
+pub IsScript-with_locks : (s : Script) (lines : List LockLine) (key : List ℕ) → IsScript s → length s.locks + length lines ≤ 256 → AreNewLocks s key lines → IsScript (with_locks s lines)
+IsScript-with_locks s lines key h room new =
     let n : Script = with_locks s lines in
     let k : Keeps s n = record { cpus = refl; tasks = omega arith; locks = λ fits l h. lock_stays s.locks lines l.0 fits h } in
+    let fits : All (IsLockWithin s.cpus) lines = rw new.made (fit_of s.cpus key new.kind new.shape) in
     record {
       cpus = h.cpus;
       tasks = h.tasks;
@@ -105,21 +112,9 @@ IsScript-with_locks s lines h room fits =
       each_task = All-weaker (IsTaskOf s) (IsTaskOf n) (task_stays s n k) s.tasks h.each_task;
       each_lock = All-append (IsLockWithin s.cpus) s.locks lines h.each_lock fits;
       each_pick = h.each_pick;
+      names = HasOwnNames-with_locks s lines key h new;
+      whole = HasWholeLocks-with_locks s lines key h.whole new;
     }
-
--- ---- processors, before all lines
-
-pub IsScript-with_cpus : (n : ℕ) → 1 ≤ n → n ≤ 8 → IsScript (with_cpus no_lines n)
-IsScript-with_cpus n least most = record {
-  cpus = (least, most);
-  tasks = omega arith;
-  locks = omega arith;
-  calls = omega arith;
-  picks = omega arith;
-  each_task = All-nil (IsTaskOf (with_cpus no_lines n));
-  each_lock = All-nil (IsLockWithin n);
-  each_pick = All-nil (λ (t : TaskId). t.0 < 0);
-}
 
 -- ---- the line of a lock
 
@@ -128,6 +123,15 @@ lock_within s l h in' =
     let d : LockLine = record { name = []; kind = kinds.Mutex; cell = None } in
     let is : lock_line s l ≡ get_or s.locks l.0 d = unwrap_or-slice_get s.locks l.0 d in
     rw is (h.each_lock l.0 d in')
+
+-- ---- the name of a task
+
+pub task_named : (s : Script) (t : TaskId) → IsScript s → t.0 < length s.tasks → is_name (task_line s t).name ≡ true
+task_named s t h in' =
+    let d : TaskLine = record { name = []; own = 0; cpu = record { 0 = 0 }; calls = [] } in
+    let is : task_line s t ≡ get_or s.tasks t.0 d = unwrap_or-slice_get s.tasks t.0 d in
+    let at : IsTaskOf s (get_or s.tasks t.0 d) = h.each_task t.0 d in' in
+    rw is at.name
 
 -- ---- a call more
 
@@ -156,6 +160,8 @@ IsScript-with_call s t call h in' room fits =
         each_task = All-set (IsTaskOf n) s.tasks t.0 new (stays new more) (All-weaker (IsTaskOf s) (IsTaskOf n) stays s.tasks h.each_task);
         each_lock = h.each_lock;
         each_pick = All-weaker (λ (t : TaskId). t.0 < length s.tasks) (λ (t : TaskId). t.0 < length n.tasks) (λ t lt. omega arith) s.picks h.each_pick;
+        names = HasOwnNames-with_call s t call h.names in';
+        whole = h.whole;
       },
       count,
     )
@@ -172,4 +178,6 @@ IsScript-with_pick s t h in' room = record {
   each_task = All-weaker (IsTaskOf s) (IsTaskOf (with_pick s t)) (λ line. task_stays s (with_pick s t) (record { cpus = refl; tasks = omega arith; locks = λ fits l h. h }) line) s.tasks h.each_task;
   each_lock = h.each_lock;
   each_pick = All-push (λ (t : TaskId). t.0 < length s.tasks) s.picks t h.each_pick in';
+  names = record { task = h.names.task; lock = h.names.lock; apart = h.names.apart };
+  whole = h.whole;
 }

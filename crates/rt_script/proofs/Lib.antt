@@ -3,4 +3,5 @@ pub mod Cells
 pub mod Growth
 pub mod Naming
 pub mod Numbers
+pub mod OwnNames
 pub mod Pieces

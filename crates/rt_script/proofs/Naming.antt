@@ -18,7 +18,7 @@ use Rattle.rt_base.specs.declared.call.Call.{Call}
 use Rattle.rt_base.specs.declared.kind.Kind.TheVariants.{Mutex}
 use Rattle.rt_base.specs.declared.id.TaskId.{TaskId}
 use Rattle.rt_base.specs.declared.id.LockId.{LockId}
-use Rattle.rt_base.specs.Script.{Script, TaskLine, LockLine, task_line}
+use Rattle.rt_base.specs.Script.{Script, TaskLine, LockLine, task_line, task_place, lock_place}
 use Rattle.rt_script.specs.declared.named.Named.{Named}
 use Rattle.rt_script.specs.declared.named.Named.TheVariants.{Task, Lock}
 use Rattle.rt_script.specs.Adding.{no_lines, with_cpus, with_task, with_locks, with_call, with_pick}
@@ -31,12 +31,12 @@ placed : (n len : ℕ) (b : Bool) → n ≤ len → let at : ℕ = cond (eqb n l
 placed n len true le = grind (arith, nat_tests)
 placed n len false le = grind (arith, nat_tests)
 
-position_push : {X : Type 0} (p : X → Bool) (xs : List X) (y : X) → position p (xs ++ y ∷ []) ≡ option_or (position p xs) (cond (p y) (Some (length xs)) None)
+pub position_push : {X : Type 0} (p : X → Bool) (xs : List X) (y : X) → position p (xs ++ y ∷ []) ≡ option_or (position p xs) (cond (p y) (Some (length xs)) None)
 position_push p xs y =
     let more : length (xs ++ y ∷ []) ≡ length xs + 1 = omega (arith, length-append xs (y ∷ [])) in
     rw (position_or_len_push p xs y, more) (placed (position_or_len p xs) (length xs) (p y) (prefix_len-le-length (λ x. not (p x)) xs))
 
-position-set : {X : Type 0} (p : X → Bool) (xs : List X) (i : ℕ) (y d : X) → p y ≡ p (get_or xs i d) → position p (set xs i y) ≡ position p xs
+pub position-set : {X : Type 0} (p : X → Bool) (xs : List X) (i : ℕ) (y d : X) → p y ≡ p (get_or xs i d) → position p (set xs i y) ≡ position p xs
 position-set p xs i y d e = rw (position_or_len-set p xs i y d e, length-set xs i y) refl
 
 twice : (a : Option ℕ) (b : Bool) (n m : ℕ) → option_or (option_or a (cond b (Some n) None)) (cond b (Some m) None) ≡ option_or a (cond b (Some n) None)
@@ -62,7 +62,7 @@ unfolding named
 named-nothing name = refl
 
 -- what stands for a name that is among the tasks or among the locks
-abbrev either : Option ℕ → Option ℕ → Option Named
+abbrev pub either : Option ℕ → Option ℕ → Option Named
 either task lock = option_or (option_map the_task task) (option_map the_lock lock)
 
 added_task : (a b : Option ℕ) (n : ℕ) (e : Bool) → (e ≡ true → either a b ≡ None) → either (option_or a (cond e (Some n) None)) b ≡ cond e (Some (the_task n)) (either a b)
@@ -79,7 +79,7 @@ added_lock None (Some j) n false h = refl
 added_lock None None n true h = refl
 added_lock None None n false h = refl
 
-same_test : (a b : List ℕ) → bytes_eq a b ≡ bytes_eq b a
+pub same_test : (a b : List ℕ) → bytes_eq a b ≡ bytes_eq b a
 same_test a b = grind (arith, bytes_eq-Decides a b, bytes_eq-Decides b a)
 
 pub named-with_task : (s : Script) (line : TaskLine) → named s line.name ≡ None → (name : List ℕ) → named (with_task s line) name ≡ update bytes_eq (named s) line.name (Some (the_task (length s.tasks))) name
@@ -90,7 +90,7 @@ named-with_task s line new name =
     let free : bytes_eq name line.name ≡ true → named s name ≡ None = λ e. rw ((bytes_eq-Decides name line.name).0 e) new in
     rw (position_push tasks s.tasks line, same_test line.name name) (added_task (position tasks s.tasks) (position locks s.locks) (length s.tasks) (bytes_eq name line.name) free)
 
-locks_placed : (p : LockLine → Bool) (b : Bool) (xs ys : List LockLine) → All (λ y. p y ≡ b) ys → 1 ≤ length ys → position p (xs ++ ys) ≡ option_or (position p xs) (cond b (Some (length xs)) None)
+pub locks_placed : (p : LockLine → Bool) (b : Bool) (xs ys : List LockLine) → All (λ y. p y ≡ b) ys → 1 ≤ length ys → position p (xs ++ ys) ≡ option_or (position p xs) (cond b (Some (length xs)) None)
 locks_placed p b xs [] all some = absurd (omega arith)
 locks_placed p b xs (y ∷ ys) all some = position_append p b xs y ys (all 0 y (omega arith)) (All-tail (λ y. p y ≡ b) y ys all)
 
@@ -120,33 +120,47 @@ pub named-with_pick : (s : Script) (t : TaskId) (name : List ℕ) → named (wit
 unfolding named
 named-with_pick s t name = refl
 
-task_place : (a b : Option ℕ) (t : TaskId) → either a b ≡ Some (Task t) → a ≡ Some t.0
-task_place (Some i) b t e =
+task_is : (a b : Option ℕ) (t : TaskId) → either a b ≡ Some (Task t) → a ≡ Some t.0
+task_is (Some i) b t e =
     let same : record { 0 = i } ≡ t = cc in
     ap (λ (u : TaskId). Some u.0) same
-task_place None (Some j) t e = absurd cc
-task_place None None t e = absurd cc
+task_is None (Some j) t e = absurd cc
+task_is None None t e = absurd cc
 
-lock_place : (a b : Option ℕ) (l : LockId) → either a b ≡ Some (Lock l) → b ≡ Some l.0
-lock_place (Some i) b l e = absurd cc
-lock_place None (Some j) l e =
+lock_is : (a b : Option ℕ) (l : LockId) → either a b ≡ Some (Lock l) → b ≡ Some l.0
+lock_is (Some i) b l e = absurd cc
+lock_is None (Some j) l e =
     let same : record { 0 = j } ≡ l = cc in
     ap (λ (u : LockId). Some u.0) same
-lock_place None None l e = absurd cc
+lock_is None None l e = absurd cc
 
 pub task_within : (s : Script) (name : List ℕ) (t : TaskId) → named s name ≡ Some (Task t) → t.0 < length s.tasks
 unfolding named
 task_within s name t e =
     let tasks : TaskLine → Bool = λ t. bytes_eq name t.name in
     let locks : LockLine → Bool = λ l. bytes_eq name l.name in
-    (position-Some tasks s.tasks t.0 (record { name = []; own = 0; cpu = record { 0 = 0 }; calls = [] }) (task_place (position tasks s.tasks) (position locks s.locks) t e)).0
+    (position-Some tasks s.tasks t.0 (record { name = []; own = 0; cpu = record { 0 = 0 }; calls = [] }) (task_is (position tasks s.tasks) (position locks s.locks) t e)).0
 
 pub lock_within : (s : Script) (name : List ℕ) (l : LockId) → named s name ≡ Some (Lock l) → l.0 < length s.locks
 unfolding named
 lock_within s name l e =
     let tasks : TaskLine → Bool = λ t. bytes_eq name t.name in
     let locks : LockLine → Bool = λ l. bytes_eq name l.name in
-    (position-Some locks s.locks l.0 (record { name = []; kind = Mutex; cell = None }) (lock_place (position tasks s.tasks) (position locks s.locks) l e)).0
+    (position-Some locks s.locks l.0 (record { name = []; kind = Mutex; cell = None }) (lock_is (position tasks s.tasks) (position locks s.locks) l e)).0
+
+none_of : (a b : Option ℕ) → either a b ≡ None → (a ≡ None) × (b ≡ None)
+none_of (Some i) b e = absurd cc
+none_of None (Some j) e = absurd cc
+none_of None None e = (refl, refl)
+
+-- a name that stands for nothing is no task's, and no lock's
+pub no_place : (s : Script) (name : List ℕ) → named s name ≡ None → (task_place s name ≡ None) × (lock_place s name ≡ None)
+unfolding named
+no_place s name e = none_of (task_place s name) (lock_place s name) e
+
+pub place_of_lock : (s : Script) (name : List ℕ) (l : LockId) → named s name ≡ Some (Lock l) → lock_place s name ≡ Some l.0
+unfolding named
+place_of_lock s name l e = lock_is (task_place s name) (lock_place s name) l e
 
 -- ---- a map whose keys are texts has no other
 

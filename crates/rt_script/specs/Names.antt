@@ -1,10 +1,11 @@
 -- What names stand for.
-use Rattle.std.specs.Prelude.{ℕ, List, Option, Some, None, Result, Ok, option_map, is_none}
+use Rattle.std.specs.Prelude.{◌≡◌, ℕ, true, List, Option, Some, None, Result, Ok, option_map, is_none}
 use Rattle.std.specs.Option.{option_or}
 use Rattle.rt_base.specs.declared.id.TaskId.{TaskId}
 use Rattle.rt_base.specs.declared.id.LockId.{LockId}
+use Rattle.rt_base.specs.declared.kind.Kind.{Kind}
 use Rattle.rt_base.specs.Name.{is_name}
-use Rattle.rt_base.specs.Script.{Script, task_place, lock_place}
+use Rattle.rt_base.specs.Script.{Script, LockLine, task_place, lock_place, locks_of}
 use Rattle.rt_script.specs.declared.named.Named.{Named}
 use Rattle.rt_script.specs.declared.named.Named.TheVariants.{Task, Lock}
 use Rattle.rt_script.specs.declared.fault.Why.TheVariants.{BadName, NameTwice}
@@ -44,3 +45,10 @@ lock_named script name = only_lock (named script name)
 -- the word, where it has the shape of a name and stands for nothing yet
 abbrev pub new_name : Script → List ℕ → Judged (List ℕ)
 new_name script word = provided (is_name word) BadName (provided (is_none (named script word)) NameTwice (Ok word))
+
+-- the locks of a line of some kind, whose name is new in the script
+pub record AreNewLocks (script : Script) (name : List ℕ) (locks : List LockLine) : Type 0 where
+  pub shape : is_name name ≡ true
+  pub free : named script name ≡ None
+  pub kind : Kind
+  pub made : locks ≡ locks_of script.cpus name kind

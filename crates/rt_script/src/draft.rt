@@ -1,9 +1,10 @@
-ghost use Rattle.std.specs.Prelude.{◌≡◌, ◌+◌, ◌<◌, ◌≤◌, [], length, true, false, All, None, Ok, IfOk, string_bytes};
-ghost use Rattle.rt_base.specs.Script.{LockLine, all_calls, IsTaskOf, IsCallOf, IsLockWithin};
+ghost use Rattle.std.specs.Prelude.{◌≡◌, ◌+◌, ◌<◌, ◌≤◌, [], length, true, false, None, Ok, IfOk, string_bytes};
+ghost use Rattle.rt_base.specs.Name.{is_name};
+ghost use Rattle.rt_base.specs.Script.{all_calls, IsTaskOf, IsCallOf};
 ghost use Rattle.rt_script.specs.Adding.{no_lines, with_cpus, with_task, with_locks, with_call, with_pick};
 ghost use Rattle.rt_script.specs.Grammar.{SoFar};
 ghost use Rattle.rt_script.specs.Judging.{need};
-ghost use Rattle.rt_script.specs.Names.{named, task_named, lock_named, new_name};
+ghost use Rattle.rt_script.specs.Names.{named, task_named, lock_named, new_name, AreNewLocks};
 ghost use Rattle.rt_script.specs.Refusing.{Gives};
 ghost use Rattle.rt_script.specs.declared.fault.Why.TheVariants.{Unknown};
 
@@ -110,7 +111,7 @@ impl Draft {
     /// The name that the word declares: it has the shape of one, and stands for nothing yet.
     pub(crate) fn new_name(&self, alloc: Global, word: &[u8]) -> Result<String, Refusal>
         ensures name { Gives string_bytes result (new_name self.now.script word.now) }
-        ensures length { IfOk result (λ name. (1 ≤ length (string_bytes name)) × (length (string_bytes name) ≤ 16)) }
+        ensures shape { IfOk result (λ name. is_name (string_bytes name) ≡ true) }
         ensures free { IfOk result (λ name. named self.now.script (string_bytes name) ≡ None) }
     {
         if !is_name(word) {
@@ -153,13 +154,10 @@ impl Draft {
         Ok(())
     }
 
-    /// Adds locks of one new name behind the others.
+    /// Adds the locks of one line behind the others.
     pub(crate) fn push_locks(&mut self, name: String, locks: Vec<Lock>) -> Result<(), Refusal>
         requires room { length self.old.script.locks + length locks.items ≤ MAX_LOCKS }
-        requires some { 1 ≤ length locks.items }
-        requires names { All (λ (line : LockLine). line.name ≡ string_bytes name) locks.items }
-        requires fits { All (IsLockWithin self.old.script.cpus) locks.items }
-        requires free { named self.old.script (string_bytes name) ≡ None }
+        requires added { AreNewLocks self.old.script (string_bytes name) locks.items }
         ensures { Gives (λ _. self.new) result (Ok (record { script = with_locks self.old.script locks.items; begun = true })) }
     {
         self.begun = true;

@@ -127,6 +127,8 @@ impl Draft {
         ensures fits { IfOk result (IsCallOf self.now.script) }
     {
         let lock = self.lock_named(operands.one()?)?;
+        let there = lock.0 < self.script().locks();
+        prove!(there);
         match call_of(self.script().kind(lock), verb, lock) {
             Some(call) => Ok(call),
             None => Err(Refusal::Fault(Why::WrongKind)),

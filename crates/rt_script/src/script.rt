@@ -1,5 +1,7 @@
-ghost use Rattle.std.specs.Prelude.{◌≡◌, ◌+◌, ◌<◌, ◌≤◌, [], length, All, OnOk, OnErr};
+ghost use Rattle.std.specs.Prelude.{◌≡◌, ◌+◌, ◌<◌, ◌≤◌, ℕ, List, [], length, true, None, OnOk, OnErr};
+ghost use Rattle.rt_base.specs.Name.{is_name};
 ghost use Rattle.rt_base.specs.Script.{task_line, lock_line, all_calls, budget_of, IsScript, IsTaskOf, IsCallOf, IsCellOf, IsLockWithin};
+ghost use Rattle.rt_script.specs.Names.{named, AreNewLocks};
 ghost use Rattle.rt_script.specs.Adding.{no_lines, with_cpus, with_task, with_locks, with_call, with_pick};
 
 use crate::limits::{MAX_CALLS, MAX_CPUS, MAX_LOCKS, MAX_PICKS, MAX_TASKS};
@@ -76,7 +78,8 @@ impl Script {
     /// The task of a number.
     fn task(&self, t: TaskId) -> &Task
         requires { t.0 < length self.now.tasks }
-        ensures { result.now ≡ task_line self.now t }
+        ensures line { result.now ≡ task_line self.now t }
+        ensures name { is_name (task_line self.now t).name ≡ true }
     {
         &self.tasks[t.0 as usize]
     }
@@ -117,7 +120,8 @@ impl Script {
     /// The name of a task.
     pub fn task_name(&self, t: TaskId) -> &str
         requires { t.0 < length self.now.tasks }
-        ensures { result.now ≡ (task_line self.now t).name }
+        ensures name { result.now ≡ (task_line self.now t).name }
+        ensures short { (1 ≤ length result.now) × (length result.now ≤ 16) }
     {
         self.task(t).name()
     }
@@ -133,7 +137,8 @@ impl Script {
     /// The name of a lock. The cells of a local lock have one name.
     pub fn lock_name(&self, l: LockId) -> &str
         requires { l.0 < length self.now.locks }
-        ensures { result.now ≡ (lock_line self.now l).name }
+        ensures name { result.now ≡ (lock_line self.now l).name }
+        ensures short { (1 ≤ length result.now) × (length result.now ≤ 16) }
     {
         self.lock(l).name()
     }
@@ -173,6 +178,7 @@ impl Script {
         requires room { length self.old.tasks < MAX_TASKS }
         requires fits { IsTaskOf self.old task }
         requires uncalled { task.calls ≡ [] }
+        requires free { named self.old task.name ≡ None }
         ensures ok { OnOk result (self.new ≡ with_task self.old task) }
         ensures err { OnErr result (self.new ≡ self.old) }
     {
@@ -190,10 +196,10 @@ impl Script {
         self.cpus = n;
     }
 
-    /// Adds locks behind the others. An `Err` changes nothing.
+    /// Adds the locks of one line behind the others. An `Err` changes nothing.
     pub(crate) fn push_locks(&mut self, mut locks: Vec<Lock>) -> Result<(), AllocError>
         requires room { length self.old.locks + length locks.items ≤ MAX_LOCKS }
-        requires fits { All (IsLockWithin self.old.cpus) locks.items }
+        requires added { (name : List ℕ) × AreNewLocks self.old name locks.items }
         ensures ok { OnOk result (self.new ≡ with_locks self.old locks.items) }
         ensures err { OnErr result (self.new ≡ self.old) }
     {

@@ -7,6 +7,6 @@ pub invariant_of-self-2 : goal.invariant_of-self-2
 invariant_of-self-2 c =
     let s : Script = script_of_fields c.self.inside in
     let room = rw (← c.self.view_is) at c.requires.room in
-    let fits = rw (← c.self.view_is) at c.requires.fits in
-    let h = IsScript-with_locks s c.args.locks.items c.self.invariant.script room fits in
+    let added = rw (← c.self.view_is) at c.requires.added in
+    let h = IsScript-with_locks s c.args.locks.items added.0 c.self.invariant.script room added.1 in
     record { script = rw c.in_ok-append.ensures.items h; calls = c.self.invariant.calls }

@@ -104,8 +104,6 @@ pub(crate) fn task_text(script: &Script, t: TaskId) -> &str
     ensures word { result.now ≡ task_word script.now t }
     ensures short { length result.now ≤ 16 }
 {
-    let named = t.0 < script.tasks();
-    prove!(named);
     script.task_name(t)
 }
 
@@ -140,8 +138,6 @@ fn lock_text(script: &Script, l: LockId) -> &str
     ensures name { result.now ≡ (lock_line script.now l).name }
     ensures short { length result.now ≤ 16 }
 {
-    let named = l.0 < script.locks();
-    prove!(named);
     script.lock_name(l)
 }
 

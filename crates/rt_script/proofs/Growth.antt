@@ -8,7 +8,6 @@ use Rattle.rt_base.specs.declared.call.Call.{Call}
 use Rattle.rt_base.specs.declared.call.Call.TheVariants.{Lock, LockInt, TryLock, Unlock, Spin, TrySpin, Unspin, Read, TryRead, Unread, Write, TryWrite, Unwrite, Downgrade, Local, Unlocal, State, Schedule, Wake, Signal, SetPrio, Move}
 use Rattle.rt_base.specs.declared.id.TaskId.{TaskId}
 use Rattle.rt_base.specs.declared.id.LockId.{LockId}
-use Rattle.rt_base.specs.declared.kind.Kind.{Kind}
 use Rattle.rt_base.specs.declared.kind.Kind.TheVariants as kinds
 use Rattle.rt_base.specs.Name.{is_name}
 use Rattle.rt_base.specs.Script.{Script, TaskLine, LockLine, task_line, lock_line, all_calls, IsLockOf, IsMutex, IsSpin, IsReaderLock, IsLocal, IsCallOf, IsTaskOf, IsLockWithin, IsScript}

@@ -5,3 +5,4 @@ pub mod Naming
 pub mod Numbers
 pub mod OwnNames
 pub mod Pieces
+pub mod Whole

@@ -1,6 +1,6 @@
 -- A name stands for one task, or for one lock with its cells, as lines are added.
-use Rattle.std.proofs.Common.{◌≡◌, inl, inr, ℕ, zero, suc, ◌+◌, ◌-◌, ◌<◌, ◌≤◌, Bool, true, false, cond, List, [], ◌∷◌, ◌++◌, length, get_or, set, Option, Some, None, refl, sym, ap, ◌∙◌, subst, arith, append_assoc, append-nil, length-append, length-set}
-use Rattle.std.specs.Prelude.{All, Ok, position, bytes_eq, flat_map, nat_lt, String}
+use Rattle.std.proofs.Common.{◌≡◌, inl, inr, ℕ, ◌+◌, ◌-◌, ◌<◌, ◌≤◌, Bool, true, false, cond, List, [], ◌∷◌, ◌++◌, length, get_or, set, Option, Some, None, refl, sym, ap, ◌∙◌, subst, arith, append-nil, length-append, length-set}
+use Rattle.std.specs.Prelude.{All, Ok, position, bytes_eq, nat_lt, String}
 use Rattle.std.specs.HashMap.{HashMap, get_by_text}
 use Rattle.std.specs.List.{position_or_len}
 use Rattle.std.specs.Map.{update}
@@ -19,7 +19,7 @@ use Rattle.rt_base.specs.declared.id.LockId.{LockId}
 use Rattle.rt_base.specs.declared.kind.Kind.{Kind}
 use Rattle.rt_base.specs.declared.kind.Kind.TheVariants as kinds
 use Rattle.rt_base.specs.Name.{is_name}
-use Rattle.rt_base.specs.Script.{Script, TaskLine, LockLine, task_line, lock_line, task_place, lock_place, is_first_cell, locks_of, locks_of_lines, HasOwnNames, HasWholeLocks, IsScript}
+use Rattle.rt_base.specs.Script.{Script, TaskLine, LockLine, task_line, lock_line, task_place, is_first_cell, locks_of, locks_of_lines, HasOwnNames, HasWholeLocks, IsScript}
 use Rattle.rt_script.specs.declared.fault.Why.TheVariants.{Unknown}
 use Rattle.rt_script.specs.declared.named.Named.{Named}
 use Rattle.rt_script.specs.declared.named.Named.TheVariants.{Task, Lock}

@@ -16,6 +16,7 @@ mod script;
 mod task;
 mod verb;
 mod words;
+mod writing;
 
 pub use fault::{ScriptFault, Why};
 pub use reading::read_script;

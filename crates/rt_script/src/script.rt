@@ -75,6 +75,20 @@ impl Script {
         self.picks.as_slice()
     }
 
+    /// All tasks.
+    pub(crate) fn task_lines(&self) -> &[Task]
+        ensures { result.now ≡ self.now.tasks }
+    {
+        self.tasks.as_slice()
+    }
+
+    /// All locks.
+    pub(crate) fn lock_lines(&self) -> &[Lock]
+        ensures { result.now ≡ self.now.locks }
+    {
+        self.locks.as_slice()
+    }
+
     /// The task of a number.
     fn task(&self, t: TaskId) -> &Task
         requires { t.0 < length self.now.tasks }

@@ -24,3 +24,5 @@ pub use script::Script;
 
 #[cfg(test)]
 mod tests;
+#[cfg(test)]
+mod writing_tests;

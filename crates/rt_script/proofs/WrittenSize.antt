@@ -1,0 +1,115 @@
+-- How long a written script is.
+use Rattle.std.proofs.Common.{◌≡◌, ℕ, ◌*◌, ◌<◌, ◌≤◌, Bool, true, ◌&&◌, List, [], ◌∷◌, ◌++◌, length, map, filter, flat_map, leb, All, refl, ◌∙◌, arith, length-append}
+use Rattle.std.specs.Prelude.{codes, decimal, sum_by}
+use Rattle.std.specs.List.{list_all}
+use Rattle.std.proofs.lemmas.Bool.{le-leb, leb-true}
+use Rattle.std.proofs.lemmas.List.{length-map}
+use Rattle.std.proofs.lemmas.List.Elements.{All-head, All-tail, All-filter}
+use Rattle.std.proofs.lemmas.List.Folds.{list_all-append}
+use Rattle.std.proofs.lemmas.List.Sums.{sum-map, sum_by-cons, length-filter, count_by-le-length}
+use Rattle.rt_base.specs.declared.call.Call.{Call}
+use Rattle.rt_base.specs.declared.id.TaskId.{TaskId}
+use Rattle.rt_base.specs.declared.kind.Kind.{Kind}
+use Rattle.rt_base.specs.declared.kind.Kind.TheVariants as kinds
+use Rattle.rt_base.specs.Script.{Script, TaskLine, LockLine, task_line, IsScript, IsTaskOf, IsLockWithin, IsCallOf}
+use Rattle.rt_script.specs.Canonical.{kind_word, call_words, cpus_text, task_text, lock_text, call_text, calls_text, pick_text, lined_locks, with_line_feed, canonical_lines, canonical}
+use Rattle.rt_script.specs.Words.{is_printable}
+use Rattle.rt_script.proofs.WrittenWords.{left, right, both, is_word, line_of, word_of_name, word_of_number, printable_line, length_line}
+use Rattle.rt_script.proofs.WrittenCalls.{Says, task_fits, call_says}
+use Rattle.rt_script.proofs.WrittenLocks.{has_line}
+
+-- ---- lists of lines
+
+-- a line of printable characters, of at most 101
+abbrev pub is_line : List ℕ → Bool
+is_line line = list_all is_printable line && leb (length line) 101
+
+every : {X : Type 0} (P : X → Type 0) (p : X → Bool) (xs : List X) → ((x : X) → P x → p x ≡ true) → All P xs → list_all p xs ≡ true
+every P p [] h all = refl
+every P p (x ∷ xs) h all = both _ _ (h x (All-head P x xs all)) (every P p xs h (All-tail P x xs all))
+
+every_mapped : {X Y : Type 0} (P : X → Type 0) (p : Y → Bool) (f : X → Y) (xs : List X) → ((x : X) → P x → p (f x) ≡ true) → All P xs → list_all p (map f xs) ≡ true
+every_mapped P p f [] h all = refl
+every_mapped P p f (x ∷ xs) h all = both _ _ (h x (All-head P x xs all)) (every_mapped P p f xs h (All-tail P x xs all))
+
+every_joined : {X Y : Type 0} (P : X → Type 0) (p : Y → Bool) (f : X → List Y) (xs : List X) → ((x : X) → P x → list_all p (f x) ≡ true) → All P xs → list_all p (flat_map f xs) ≡ true
+every_joined P p f [] h all = refl
+every_joined P p f (x ∷ xs) h all = list_all-append p (f x) (flat_map f xs) ∙ both _ _ (h x (All-head P x xs all)) (every_joined P p f xs h (All-tail P x xs all))
+
+joined : (p : List ℕ → Bool) (xs ys : List (List ℕ)) → list_all p xs ≡ true → list_all p ys ≡ true → list_all p (xs ++ ys) ≡ true
+joined p xs ys e f = list_all-append p xs ys ∙ both _ _ e f
+
+-- ---- each line
+
+of_words : (first : List ℕ) (words : List (List ℕ)) → list_all is_word (first ∷ words) ≡ true → length words ≤ 5 → is_line (line_of first words) ≡ true
+of_words first words e few = both _ _ (printable_line first words e) (le-leb (length (line_of first words)) 101 (omega (arith, length_line first words e)))
+
+cpus_line : (cpus : ℕ) → cpus ≤ 8 → is_line (cpus_text cpus) ≡ true
+cpus_line cpus few = of_words (codes "cpus") (decimal cpus ∷ []) (both _ _ refl (both _ _ (word_of_number cpus (omega arith)) refl)) (omega arith)
+
+task_line_fits : (s : Script) → s.cpus ≤ 8 → (t : TaskLine) → IsTaskOf s t → is_line (task_text t) ≡ true
+task_line_fits s few t fits = of_words (codes "task") (t.name ∷ decimal t.own ∷ decimal t.cpu.0 ∷ [])
+    (both _ _ refl (both _ _ (word_of_name t.name fits.name) (both _ _ (word_of_number t.own (omega (arith, fits.own))) (both _ _ (word_of_number t.cpu.0 (omega (arith, fits.cpu))) refl)))) (omega arith)
+
+kind_plain : (kind : Kind) → is_word (kind_word kind) ≡ true
+kind_plain kinds.Mutex = refl
+kind_plain kinds.Spin = refl
+kind_plain kinds.RwLock = refl
+kind_plain kinds.RwSem = refl
+kind_plain kinds.Local = refl
+
+lock_line_fits : (cpus : ℕ) (l : LockLine) → IsLockWithin cpus l → is_line (lock_text l) ≡ true
+lock_line_fits cpus l fits = of_words (codes "lock") (l.name ∷ kind_word l.kind ∷ []) (both _ _ refl (both _ _ (word_of_name l.name fits.name) (both _ _ (kind_plain l.kind) refl))) (omega arith)
+
+call_line_fits : (s : Script) → IsScript s → (t : TaskLine) → IsTaskOf s t → (call : Call) → IsCallOf s call → is_line (call_text s t call) ≡ true
+call_line_fits s h t fits call is =
+    let says : Says s (call_words s call) call = call_says s s h (record { cpus = refl; names = refl; locks = refl }) call is in
+    of_words (codes "call") (t.name ∷ call_words s call) (both _ _ refl (both _ _ (word_of_name t.name fits.name) says.plain)) (omega (arith, leb-true (length (call_words s call)) 4 says.few))
+
+task_calls_fit : (s : Script) → IsScript s → (t : TaskLine) → IsTaskOf s t → list_all is_line (calls_text s t) ≡ true
+task_calls_fit s h t fits = every_mapped (IsCallOf s) is_line (call_text s t) t.calls (call_line_fits s h t fits) fits.calls
+
+pick_line_fits : (s : Script) → IsScript s → (t : TaskId) → t.0 < length s.tasks → is_line (pick_text s t) ≡ true
+pick_line_fits s h t in' = of_words (codes "pick") ((task_line s t).name ∷ []) (both _ _ refl (both _ _ (word_of_name (task_line s t).name (task_fits s t h in').name) refl)) (omega arith)
+
+-- ---- all lines
+
+pub lines_fit : (s : Script) → IsScript s → list_all is_line (canonical_lines s) ≡ true
+lines_fit s h =
+    let tasks : list_all is_line (map task_text s.tasks) ≡ true = every_mapped (IsTaskOf s) is_line task_text s.tasks (task_line_fits s h.cpus.1) h.each_task in
+    let locks : list_all is_line (map lock_text (lined_locks s)) ≡ true = every_mapped (IsLockWithin s.cpus) is_line lock_text (lined_locks s) (lock_line_fits s.cpus) (All-filter has_line (IsLockWithin s.cpus) s.locks h.each_lock) in
+    let calls : list_all is_line (flat_map (calls_text s) s.tasks) ≡ true = every_joined (IsTaskOf s) is_line (calls_text s) s.tasks (task_calls_fit s h) h.each_task in
+    let picks : list_all is_line (map (pick_text s) s.picks) ≡ true = every_mapped (λ (t : TaskId). t.0 < length s.tasks) is_line (pick_text s) s.picks (pick_line_fits s h) h.each_pick in
+    let to_locks = joined is_line (codes "rtscript 1" ∷ cpus_text s.cpus ∷ map task_text s.tasks) (map lock_text (lined_locks s)) (both _ _ refl (both _ _ (cpus_line s.cpus h.cpus.1) tasks)) locks in
+    let to_calls = joined is_line ((codes "rtscript 1" ∷ cpus_text s.cpus ∷ map task_text s.tasks) ++ map lock_text (lined_locks s)) (flat_map (calls_text s) s.tasks) to_locks calls in
+    let to_picks = joined is_line ((codes "rtscript 1" ∷ cpus_text s.cpus ∷ map task_text s.tasks) ++ map lock_text (lined_locks s) ++ flat_map (calls_text s) s.tasks) (map (pick_text s) s.picks) to_calls picks in
+    joined is_line ((codes "rtscript 1" ∷ cpus_text s.cpus ∷ map task_text s.tasks) ++ map lock_text (lined_locks s) ++ flat_map (calls_text s) s.tasks ++ map (pick_text s) s.picks) (codes "go" ∷ []) to_picks refl
+
+pub printable_lines : (lines : List (List ℕ)) → list_all is_line lines ≡ true → list_all (list_all is_printable) lines ≡ true
+printable_lines [] e = refl
+printable_lines (l ∷ ls) e = both _ _ (left _ _ (left _ _ e)) (printable_lines ls (right _ _ e))
+
+text_fits : (lines : List (List ℕ)) → list_all is_line lines ≡ true → length (flat_map with_line_feed lines) ≤ 102 * length lines
+text_fits [] e = omega arith
+text_fits (l ∷ ls) e =
+    omega (arith, leb-true (length l) 101 (right _ _ (left _ _ e)), text_fits ls (right _ _ e), length-append l (10 ∷ []), length-append (with_line_feed l) (flat_map with_line_feed ls))
+
+filtered : {X : Type 0} (p : X → Bool) (xs : List X) → length (filter p xs) ≤ length xs
+filtered p xs = omega (arith, length-filter p xs, count_by-le-length p xs)
+
+calls_counted : (s : Script) (ts : List TaskLine) → length (flat_map (calls_text s) ts) ≡ sum_by (λ (t : TaskLine). length t.calls) ts
+calls_counted s [] = refl
+calls_counted s (t ∷ ts) = omega (arith, length-append (calls_text s t) (flat_map (calls_text s) ts), length-map t.calls (call_text s t), calls_counted s ts, sum_by-cons (λ (t : TaskLine). length t.calls) t ts)
+
+few_lines : (s : Script) → IsScript s → length (canonical_lines s) ≤ 82243
+few_lines s h =
+    let head : List (List ℕ) = codes "rtscript 1" ∷ cpus_text s.cpus ∷ map task_text s.tasks in
+    let locks : List (List ℕ) = map lock_text (lined_locks s) in
+    let calls : List (List ℕ) = flat_map (calls_text s) s.tasks in
+    let picks : List (List ℕ) = map (pick_text s) s.picks in
+    omega (arith, length-append (head ++ locks ++ calls ++ picks) (codes "go" ∷ []), length-append (head ++ locks ++ calls) picks, length-append (head ++ locks) calls, length-append head locks,
+    length-map s.tasks task_text, length-map (lined_locks s) lock_text, length-map s.picks (pick_text s), filtered has_line s.locks,
+    calls_counted s s.tasks, sum-map (λ (t : TaskLine). length t.calls) s.tasks, h.tasks, h.locks, h.calls, h.picks)
+
+pub short : (s : Script) → IsScript s → length (canonical s) < 4294967295
+short s h = omega (arith, text_fits (canonical_lines s) (lines_fit s h), few_lines s h)

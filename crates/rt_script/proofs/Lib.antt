@@ -6,3 +6,11 @@ pub mod Numbers
 pub mod OwnNames
 pub mod Pieces
 pub mod Whole
+pub mod Written
+pub mod WrittenCalls
+pub mod WrittenLines
+pub mod WrittenLocks
+pub mod WrittenNames
+pub mod WrittenSize
+pub mod WrittenStages
+pub mod WrittenWords

@@ -1,8 +1,9 @@
 // The text of a script: the lines that it is written as.
-ghost use Rattle.std.specs.Prelude.{◌≡◌, [], ◌∷◌, ◌++◌, cond, codes, decimal, flat_map, IfOk, OnOk};
-ghost use Rattle.rt_base.specs.Script.{TaskLine, LockLine, task_line, lock_line, is_first_cell};
+ghost use Rattle.std.specs.Prelude.{◌≡◌, ◌<◌, [], ◌∷◌, ◌++◌, length, cond, Ok, codes, decimal, flat_map, IfOk, OnOk};
+ghost use Rattle.rt_base.specs.Script.{TaskLine, LockLine, task_line, lock_line, is_first_cell, IsScript};
 ghost use Rattle.rt_base.specs.Text.{spaced, state_word};
 ghost use Rattle.rt_script.specs.Canonical.{kind_word, on_lock, on_task, call_words, cpus_text, task_text, lock_text, call_text, pick_text, lined_locks, calls_text, with_line_feed, canonical};
+ghost use Rattle.rt_script.specs.Grammar.{script_of};
 
 use crate::lock::Lock;
 use crate::script::Script;
@@ -238,7 +239,8 @@ impl Script {
 
     // Appends the whole text.
     fn push_text(&self, out: &mut Vec<u8>) -> Result<(), AllocError>
-        ensures { OnOk result (out.new.items ≡ out.old.items ++ canonical self.now) }
+        ensures text { OnOk result (out.new.items ≡ out.old.items ++ canonical self.now) }
+        ensures valid { OnOk result (IsScript self.now) }
     {
         out.extend_from_slice(b"rtscript 1\n")?;
         push_cpus_line(self.cpus(), out)?;
@@ -252,10 +254,12 @@ impl Script {
 
     /// The canonical text of the script: the header, the number of processors, the tasks, the locks with a
     /// local lock once, the calls of one task behind those of another, the picks, and `go`, each line ended
-    /// by a line feed, without comments or empty lines. `read_script` reads it, and two scripts that are the
-    /// same have the same text. An error is a want of memory.
+    /// by a line feed, without comments or empty lines. By the rules of the script text it is this script, and
+    /// `read_script` takes it. An error is a want of memory.
     pub fn write(&self, alloc: Global) -> Result<Vec<u8>, NoMemory>
         ensures text { IfOk result (λ text. text.items ≡ canonical self.now) }
+        ensures parses { IfOk result (λ text. script_of text.items ≡ Ok self.now) }
+        ensures short { IfOk result (λ text. length text.items < 4294967295) }
     {
         let mut text = Vec::new(alloc);
         self.push_text(&mut text)?;

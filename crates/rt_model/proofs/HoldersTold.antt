@@ -78,15 +78,34 @@ acquires-free s t e l (again m is) named gets = absurd (gets_none e _ is.event r
 acquires-free s t e l (free m is) named gets = absurd (gets_none e _ is.event refl gets)
 acquires-free s t e l (give m is) named gets = absurd (gets_none e _ is.event refl gets)
 
+-- an event of a kind that doesn't leaves no lock without owner
+leaves_owned : (e x : Event) → e ≡ x → releases x.kind ≡ false → releases e.kind ≡ true → ⊥
+leaves_owned e x is none gone = let same : releases e.kind ≡ releases x.kind = ap (λ (y : Event). releases y.kind) is in cc
+
+own_by : (owner : Option TaskId) (t : TaskId) → owned_by owner t ≡ true → owner ≡ Some t
+own_by None t is = cc
+own_by (Some o) t is = ap (λ (n : ℕ). Some (record { 0 = n })) (same_number o.0 t.0 is)
+
+-- a task that holds a lock is its owner
+held_owned : (s : State) (made : ℕ) (t : TaskId) (m l : LockId) → IsLawful s made → (hold_of (thread_part s t) m).owns ≡ true → Some m ≡ Some l → (owner_part s l).owner ≡ Some t
+held_owned s made t m l lawful held named = subst (λ (k : LockId). (owner_part s k).owner ≡ Some t) (some-same m l named) (own_by (owner_part s m).owner t (sym (lawful.owners m t) ∙ held))
+
+-- an event that leaves no owner is the owner's
+releases-own : (s : State) (made : ℕ) (t : TaskId) (e : Event) (l : LockId) → IsLawful s made → IsNext s t e → e.lock ≡ Some l → releases e.kind ≡ true → (owner_part s l).owner ≡ Some t
+releases-own s made t e l lawful (free m is) named gone = held_owned s made t m l lawful is.held (sym (ap (λ (x : Event). x.lock) is.event) ∙ named)
+releases-own s made t e l lawful (give m is) named gone = held_owned s made t m l lawful is.held (sym (ap (λ (x : Event). x.lock) is.event) ∙ named)
+releases-own s made t e l lawful (fast m is) named gone = absurd (leaves_owned e _ is.event refl gone)
+releases-own s made t e l lawful (take m is) named gone = absurd (leaves_owned e _ is.event refl gone)
+releases-own s made t e l lawful (refused call answer is) named gone = absurd (leaves_owned e _ is.event refl gone)
+releases-own s made t e l lawful (mark m is) named gone = absurd (leaves_owned e _ is.event refl gone)
+releases-own s made t e l lawful (wait m is) named gone = absurd (leaves_owned e _ is.event refl gone)
+releases-own s made t e l lawful (again m is) named gone = absurd (leaves_owned e _ is.event refl gone)
+
 -- ---- the cause of a deadlock answer
 
 -- an event with another answer isn't answered deadlock
 other_answer : (e x : Event) → e ≡ x → (x.reply ≡ Some replies.Deadlock → ⊥) → e.reply ≡ Some replies.Deadlock → ⊥
 other_answer e x is other deadlock = other (sym (ap (λ (y : Event). y.reply) is) ∙ deadlock)
-
-own_by : (owner : Option TaskId) (t : TaskId) → owned_by owner t ≡ true → owner ≡ Some t
-own_by None t is = cc
-own_by (Some o) t is = ap (λ (n : ℕ). Some (record { 0 = n })) (same_number o.0 t.0 is)
 
 held_when : (held : Bool) → if_held held ≡ Some replies.Deadlock → held ≡ true
 held_when true is = refl
@@ -141,6 +160,10 @@ module _ (s : State) (made : ℕ) (events : List Event) (lawful : IsLawful s mad
   holders-law = record {
     told = holder-told;
     alone = λ front rest e l is named gets. holder-told front (e ∷ rest) l is ∙ acquires-free (after s front) e.task e l (made-next front rest e is) named gets;
+    own = λ front rest e l is named gone.
+      let all = front-run front (e ∷ rest) is in
+      let lawful_there = lawful-after s made front lawful (run-front s front (e ∷ rest) all) in
+      holder-told front (e ∷ rest) l is ∙ releases-own (after s front) _ e.task e l lawful_there (made-next front rest e is) named gone;
   }
 
   pub deadlocks-law : DeadlocksLaw events

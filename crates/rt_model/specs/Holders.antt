@@ -35,11 +35,12 @@ is_on (Some m) l = nat_eq m.0 l.0
 abbrev pub holder_of : List Event → LockId → Option TaskId
 holder_of events l = fold (λ owner e. if is_on e.lock l then owner_behind e owner else owner) None events
 
--- behind each front of the events the holder by the events is the owner in the state, and no event makes its task the
--- owner of a lock that has one
+-- behind each front of the events the holder by the events is the owner in the state; no event makes its task the owner
+-- of a lock that has one, and none but the holder leaves a lock without owner
 pub record HoldersLaw (s : State) (events : List Event) : Type 0 where
   pub told : (front rest : List Event) (l : LockId) → front ++ rest ≡ events → holder_of front l ≡ (owner_part (after s front) l).owner
   pub alone : (front rest : List Event) (e : Event) (l : LockId) → front ++ e ∷ rest ≡ events → e.lock ≡ Some l → acquires e.kind ≡ true → holder_of front l ≡ None
+  pub own : (front rest : List Event) (e : Event) (l : LockId) → front ++ e ∷ rest ≡ events → e.lock ≡ Some l → releases e.kind ≡ true → holder_of front l ≡ Some e.task
 
 -- a task that is answered deadlock holds the lock itself, by the events before
 pub record IsHeldItself (front : List Event) (e : Event) : Type 0 where

@@ -351,8 +351,11 @@ impl Core {
         ensures state { self.new.state ≡ state_after self.old.state e.now }
         ensures made { self.new.made ≡ self.old.made + 1 }
 
-        // What the event doesn't touch stays, and the core is still one of its script, and lawful.
+        // What the event leaves of what it touches depends on nothing else, and all else stays.
+        ensures local { (s : State) (made : ℕ) → IsLawful s made → AgreeOn e.now self.old.state s → AgreeOn e.now self.new.state (state_after s e.now) }
         ensures frame { (o : Obj) → touches e.now o ≡ false → object self.new.state o ≡ object self.old.state o }
+
+        // The core is still one of its script, and lawful.
         ensures script { (script : Script) → IsOf script self.old.state → IsOf script self.new.state }
         ensures lawful { IsLawful self.new.state self.new.made }
     {

@@ -1,9 +1,8 @@
 -- Each task's events make its calls once and in order.
-use Rattle.std.proofs.Common.{◌≡◌, ℕ, zero, suc, ◌+◌, ◌<◌, ◌≤◌, Bool, true, false, cond, List, [], ◌∷◌, ◌++◌, length, drop, refl, sym, ap, ◌∙◌, subst, Option, Some, None, unwrap_or, arith}
+use Rattle.std.proofs.Common.{◌≡◌, ℕ, zero, suc, ◌+◌, Bool, true, false, cond, List, [], ◌∷◌, drop, refl, sym, ap, ◌∙◌, subst, Option, Some, None, arith}
 use Rattle.std.specs.Prelude.{slice_get, nat_eq}
 use Rattle.rt_base.specs.declared.call.Call.{Call}
 use Rattle.rt_base.specs.declared.call.Call.TheVariants as calls
-use Rattle.rt_base.specs.declared.id.LockId.{LockId}
 use Rattle.rt_base.specs.declared.id.TaskId.{TaskId}
 use Rattle.rt_base.specs.declared.reply.Reply.{Reply}
 use Rattle.rt_base.specs.declared.reply.Reply.TheVariants as replies
@@ -12,12 +11,12 @@ use Rattle.rt_model.specs.declared.event_kind.EventKind.TheVariants as events
 use Rattle.rt_model.specs.declared.phase.Phase.{Phase}
 use Rattle.rt_model.specs.Parts.{ThreadPart, call_of, hold_of}
 use Rattle.rt_model.specs.State.{State, thread_part}
-use Rattle.rt_model.specs.NextEvent.{if_held, if_not_held, called_lock}
+use Rattle.rt_model.specs.NextEvent.{if_held, if_not_held}
 use Rattle.rt_model.specs.After.{answered_with, phase_after, thread_part_after, is_blocked, state_after}
 use Rattle.rt_model.specs.Run.{after, IsRun}
 use Rattle.rt_model.specs.Laws.{IsLawful, IsShaped}
 use Rattle.rt_model.specs.Called.{can_have, lock_in, IsOfCall, goes_on, begins, Make, events_of}
-use Rattle.rt_model.proofs.NextEvents.{IsNext, IsRefused, IsIn, refused, fast, mark, take, wait, again, free, give}
+use Rattle.rt_model.proofs.NextEvents.{IsNext, IsRefused, refused, fast, mark, take, wait, again, free, give}
 use Rattle.rt_model.proofs.Within.{thread-next}
 use Rattle.rt_model.proofs.Local.{plain_refusal, refusal-plain}
 use Rattle.rt_model.proofs.Prefixes.{run-next, run-lawful}

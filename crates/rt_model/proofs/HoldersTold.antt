@@ -1,6 +1,5 @@
 -- What the events tell of a lock's owner is so.
 use Rattle.std.proofs.Common.{◌≡◌, ℕ, suc, Bool, true, false, cond, List, [], ◌∷◌, ◌++◌, refl, sym, ap, ◌∙◌, subst, Option, Some, None}
-use Rattle.std.specs.Prelude.{nat_eq}
 use Rattle.std.specs.List.{fold}
 use Rattle.rt_base.specs.declared.call.Call.{Call}
 use Rattle.rt_base.specs.declared.call.Call.TheVariants as calls
@@ -16,8 +15,8 @@ use Rattle.rt_model.specs.State.{State, owner_part, task_part, thread_part}
 use Rattle.rt_model.specs.NextEvent.{if_held, if_not_held}
 use Rattle.rt_model.specs.After.{owner_part_after, state_after}
 use Rattle.rt_model.specs.Run.{after, IsRun}
-use Rattle.rt_model.specs.Laws.{IsLawful, IsServed, owned_by}
-use Rattle.rt_model.specs.Holders.{acquires, releases, owner_behind, is_on, holder_of, HoldersLaw, IsHeldItself, DeadlocksLaw}
+use Rattle.rt_model.specs.Laws.{IsLawful, owned_by}
+use Rattle.rt_model.specs.Holders.{acquires, releases, owner_behind, is_on, holder_of, HoldersLaw, DeadlocksLaw}
 use Rattle.rt_model.proofs.NextEvents.{IsNext, IsRefused, refused, fast, mark, take, wait, again, free, give}
 use Rattle.rt_model.proofs.Within.{lock-next}
 use Rattle.rt_model.proofs.PartsAfter.{names}

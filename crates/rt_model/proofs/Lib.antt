@@ -12,6 +12,7 @@ pub mod Within
 pub mod Moves
 -- what an event reads and writes
 pub mod Local
+pub mod EffectLocal
 pub mod Frame
 -- what a lawful state says of a task, and the laws, one a file
 pub mod Waiters

@@ -86,7 +86,7 @@ held_plain thread l is = ap if_not_held is
 
 -- ---- agreeing states
 
-or_last : (a b : Bool) → b ≡ true → (a || b) ≡ true
+pub or_last : (a b : Bool) → b ≡ true → (a || b) ≡ true
 or_last true b is = refl
 or_last false b is = is
 
@@ -95,13 +95,13 @@ pub record OnLock (t : TaskId) (l : LockId) (e : Event) : Type 0 where
   pub thread : touches e (objects.Thread t) ≡ true
   pub lock : touches e (objects.OwnerPart l) ≡ true
 
-agree-thread : (s other : State) (e : Event) (t : TaskId) → AgreeOn e s other → touches e (objects.Thread t) ≡ true → thread_part other t ≡ thread_part s t
+pub agree-thread : (s other : State) (e : Event) (t : TaskId) → AgreeOn e s other → touches e (objects.Thread t) ≡ true → thread_part other t ≡ thread_part s t
 agree-thread s other e t agree at = let same : of_thread (thread_part other t) ≡ of_thread (thread_part s t) = agree (objects.Thread t) at in cc
 
-agree-lock : (s other : State) (e : Event) (l : LockId) → AgreeOn e s other → touches e (objects.OwnerPart l) ≡ true → owner_part other l ≡ owner_part s l
+pub agree-lock : (s other : State) (e : Event) (l : LockId) → AgreeOn e s other → touches e (objects.OwnerPart l) ≡ true → owner_part other l ≡ owner_part s l
 agree-lock s other e l agree at = let same : of_lock (owner_part other l) ≡ of_lock (owner_part s l) = agree (objects.OwnerPart l) at in cc
 
-agree-task : (s other : State) (e : Event) (t : TaskId) → AgreeOn e s other → touches e (objects.Task t) ≡ true → task_part other t ≡ task_part s t
+pub agree-task : (s other : State) (e : Event) (t : TaskId) → AgreeOn e s other → touches e (objects.Task t) ≡ true → task_part other t ≡ task_part s t
 agree-task s other e t agree at = let same : of_task (task_part other t) ≡ of_task (task_part s t) = agree (objects.Task t) at in cc
 
 -- ---- each call and phase
@@ -181,7 +181,7 @@ slow_wait_same s other t l e agree lock task owner =
 
 -- ---- what each event touches
 
-touch : (n : ℕ) (rest : Bool) → (nat_eq n n || rest) ≡ true
+pub touch : (n : ℕ) (rest : Bool) → (nat_eq n n || rest) ≡ true
 touch n rest = ap (λ (b : Bool). b || rest) (number_itself n)
 
 -- a lawful state that agrees on what the event touches gives the same event

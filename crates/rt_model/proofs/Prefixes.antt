@@ -1,8 +1,7 @@
 -- Every state on the way of a run is lawful.
-use Rattle.std.proofs.Common.{◌≡◌, ℕ, zero, suc, ◌+◌, List, [], ◌∷◌, ◌++◌, length, refl, subst, Some, arith}
+use Rattle.std.proofs.Common.{◌≡◌, ℕ, suc, ◌+◌, List, [], ◌∷◌, ◌++◌, length, subst, arith}
 use Rattle.rt_model.specs.declared.event.Event.{Event}
 use Rattle.rt_model.specs.State.{State}
-use Rattle.rt_model.specs.NextEvent.{next_event}
 use Rattle.rt_model.specs.After.{state_after}
 use Rattle.rt_model.specs.Run.{after, IsRun}
 use Rattle.rt_model.specs.Laws.{IsLawful}

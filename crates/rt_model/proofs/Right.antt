@@ -2,14 +2,13 @@
 use Rattle.std.proofs.Common.{◌≡◌, ℕ, zero, suc, ◌<◌, ◌≤◌, min, Bool, true, false, cond, List, [], ◌∷◌, ◌++◌, length, map, refl, sym, ap, subst, get_or, ◌∙◌, Option, Some, None, unwrap_or, All, arith}
 use Rattle.std.specs.Prelude.{slice_get, AllPairs}
 use Rattle.std.proofs.lemmas.List.Elements.{All-head, All-tail}
-use Rattle.rt_base.specs.declared.id.LockId.{LockId}
 use Rattle.rt_base.specs.declared.id.TaskId.{TaskId}
 use Rattle.rt_model.specs.declared.row.Row.{Row}
-use Rattle.rt_model.specs.Parts.{OwnerPart, TaskPart, least, effective_of}
+use Rattle.rt_model.specs.Parts.{OwnerPart, TaskPart, least}
 use Rattle.rt_model.specs.Rows.{top_key}
-use Rattle.rt_model.specs.State.{State, owner_part, task_part}
-use Rattle.rt_model.specs.Laws.{IsLawful, IsQueue, IsAhead, kept_of, owned_by}
-use Rattle.rt_model.specs.Priority.{waiting_keys, least_of, IsRight, PriorityLaw}
+use Rattle.rt_model.specs.State.{State, task_part}
+use Rattle.rt_model.specs.Laws.{IsLawful, IsAhead, owned_by}
+use Rattle.rt_model.specs.Priority.{waiting_keys, least_of, PriorityLaw}
 use Rattle.std.proofs.lemmas.Bool.Decides.{nat_tests}
 use Rattle.std.proofs.lemmas.List.Elements.{All-weaker}
 use Rattle.rt_model.proofs.Lists.{All-default}

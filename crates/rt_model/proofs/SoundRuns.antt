@@ -1,22 +1,20 @@
 -- Every run of a script is sound.
-use Rattle.std.proofs.Common.{◌≡◌, ◌&&◌, ℕ, zero, suc, ◌+◌, ◌<◌, ◌≤◌, Bool, true, false, cond, List, [], ◌∷◌, ◌++◌, length, drop, map, refl, sym, ap, ◌∙◌, subst, Option, Some, None, unwrap_or, is_none, arith}
+use Rattle.std.proofs.Common.{◌≡◌, ◌&&◌, ℕ, zero, suc, ◌+◌, ◌<◌, ◌≤◌, Bool, true, false, cond, List, [], ◌∷◌, length, drop, map, refl, sym, ap, ◌∙◌, subst, Option, Some, None, unwrap_or, is_none, arith}
 use Rattle.std.specs.Prelude.{slice_get}
 use Rattle.std.specs.List.{list_all}
-use Rattle.std.proofs.lemmas.Option.{slice_get_cases}
 use Rattle.rt_base.specs.Script.{Script, TaskLine, LockLine, task_line, IsScript, HasOneMutex}
 use Rattle.rt_base.specs.declared.call.Call.{Call}
-use Rattle.rt_base.specs.declared.ended.Ended.{Ended}
 use Rattle.rt_base.specs.declared.ended.Ended.TheVariants.{Done, Stuck, Limit}
 use Rattle.rt_base.specs.declared.id.LockId.{LockId}
 use Rattle.rt_base.specs.declared.id.TaskId.{TaskId}
 use Rattle.rt_base.specs.declared.reply.Reply.{Reply}
 use Rattle.rt_model.specs.declared.event.Event.{Event}
-use Rattle.rt_model.specs.Parts.{OwnerPart, ThreadPart, call_of}
+use Rattle.rt_model.specs.Parts.{OwnerPart, ThreadPart}
 use Rattle.rt_model.specs.State.{State, start, free_lock, fresh_thread, owner_part, thread_part}
 use Rattle.rt_model.specs.After.{state_after}
 use Rattle.rt_model.specs.Run.{after, IsRun, is_at_end, is_done, is_stuck, ended_of}
 use Rattle.rt_model.specs.Laws.{IsLawful, IsOf}
-use Rattle.rt_model.specs.Called.{IsOfCall, goes_on, begins, Make, events_of, CallsLaw}
+use Rattle.rt_model.specs.Called.{goes_on, Make, events_of, CallsLaw}
 use Rattle.rt_model.specs.Sound.{IsSound}
 use Rattle.rt_model.proofs.Lists.{All-made, All-read}
 use Rattle.rt_model.proofs.Kept.{IsOf-after}

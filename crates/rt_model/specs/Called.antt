@@ -11,7 +11,7 @@ use Rattle.rt_base.specs.declared.reply.Reply.TheVariants as replies
 use Rattle.rt_model.specs.declared.event.Event.{Event}
 use Rattle.rt_model.specs.declared.event_kind.EventKind.{EventKind}
 use Rattle.rt_model.specs.declared.event_kind.EventKind.TheVariants as events
-use Rattle.rt_model.specs.State.{State, start, thread_part}
+use Rattle.rt_model.specs.State.{start, thread_part}
 use Rattle.rt_model.specs.Run.{after, ended_of}
 
 -- the call can have an event of this kind with this answer

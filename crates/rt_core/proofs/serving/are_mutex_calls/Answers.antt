@@ -1,4 +1,4 @@
-use Rattle.std.proofs.Common.{arith, refl, subst, sym, ℕ}
+use Rattle.std.proofs.Common.{arith, refl, subst}
 use Rattle.rt_base.specs.Script.{IsMutexCall}
 use Rattle.rt_core.proofs.FrontsAll.{front-all, whole-all}
 use Rattle.rt_core.proofs.serving.are_mutex_calls.Goals as goal

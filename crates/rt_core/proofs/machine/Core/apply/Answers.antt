@@ -4,9 +4,10 @@ use Rattle.rt_base.specs.declared.id.LockId.{LockId}
 use Rattle.rt_model.specs.Parts.{TaskPart, ThreadPart, effective_of, call_of}
 use Rattle.rt_model.specs.State.{State, object, task_part}
 use Rattle.rt_model.specs.After.{owner_part_after, thread_part_after, tasks_after, at_lock, update, is_blocked, state_after}
-use Rattle.rt_model.specs.Laws.{IsOf}
+use Rattle.rt_model.specs.Laws.{IsOf, IsLawful, AgreeOn}
 use Rattle.rt_model.proofs.Lists.{lent_whole}
 use Rattle.rt_model.proofs.Kept.{IsOf-after}
+use Rattle.rt_model.proofs.EffectLocal.{effect}
 use Rattle.rt_model.proofs.Frame.{frame}
 use Rattle.rt_model.proofs.NextEvents.{thread_part-index}
 use Rattle.rt_core.specs.Advance.{CanAdvance}
@@ -73,6 +74,9 @@ returns-in_default-clause-state c = absurd (unnamed c.args.e.now.lock c.in_defau
 pub returns-in_default-clause-made : goal.returns-in_default-clause-made
 returns-in_default-clause-made c = absurd (unnamed c.args.e.now.lock c.in_default.is (found (goal.at.returns-in_default-clause-made c).After-self).some)
 
+pub returns-in_default-clause-local : goal.returns-in_default-clause-local
+returns-in_default-clause-local c = absurd (unnamed c.args.e.now.lock c.in_default.is (found (goal.at.returns-in_default-clause-local c).After-self).some)
+
 -- the lists that an event leaves
 abbrev locks_left : After-advance_thread → List OwnerCell
 locks_left c = take c.self.inside.locks.len (c.change_locks.new.locks ++ drop (length c.change_locks.new.locks) c.self.inside.locks.items)
@@ -121,6 +125,13 @@ returns-clause-state c = (left (goal.at.returns-clause-state c).After-advance_th
 
 pub returns-clause-frame : goal.returns-clause-frame
 returns-clause-frame c = λ o out. ap (λ (s : State). object s o) (returns-clause-state c) ∙ frame c.args.self.now.state c.args.e.now o out
+
+pub returns-clause-local : goal.returns-clause-local
+returns-clause-local c =
+    let lawful = subst (λ (m : Made). IsLawful m.state m.made) c.self.view_is c.self.invariant.lawful in
+    λ s made lawful_there agree.
+      subst (λ (left : State). AgreeOn c.args.e.now left (state_after s c.args.e.now)) (sym (returns-clause-state c))
+      (effect c.args.self.now.state s c.args.self.now.made made c.args.e.now.task c.args.e.now lawful lawful_there c.requires.next agree)
 
 pub returns-clause-script : goal.returns-clause-script
 returns-clause-script c = λ script is. subst (IsOf script) (sym (returns-clause-state c)) (IsOf-after script c.args.self.now.state c.args.e.now is)

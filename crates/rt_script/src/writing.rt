@@ -12,7 +12,7 @@ use itoa::Buffer;
 use rt_base::{Call, Cpu, Kind, LockId, NoMemory, TaskId, TaskState};
 use std::alloc::{AllocError, Global};
 
-// The word for a kind of lock.
+/// The word for a kind of lock.
 fn kind_text(kind: Kind) -> &'static str
     ensures { result.now ≡ kind_word kind }
 {
@@ -25,7 +25,7 @@ fn kind_text(kind: Kind) -> &'static str
     }
 }
 
-// The letter for a state.
+/// The letter for a state.
 fn state_text(state: TaskState) -> &'static str
     ensures { result.now ≡ state_word state }
 {
@@ -37,7 +37,7 @@ fn state_text(state: TaskState) -> &'static str
     }
 }
 
-// Appends a word behind a space.
+/// Appends a word behind a space.
 fn push_word(word: &str, out: &mut Vec<u8>) -> Result<(), AllocError>
     ensures { OnOk result (out.new.items ≡ out.old.items ++ 32 ∷ word.now) }
 {
@@ -46,7 +46,7 @@ fn push_word(word: &str, out: &mut Vec<u8>) -> Result<(), AllocError>
     Ok(())
 }
 
-// Appends the decimal digits of a number behind a space.
+/// Appends the decimal digits of a number behind a space.
 fn push_number(n: u8, out: &mut Vec<u8>) -> Result<(), AllocError>
     ensures { OnOk result (out.new.items ≡ out.old.items ++ 32 ∷ decimal n) }
 {
@@ -55,7 +55,7 @@ fn push_number(n: u8, out: &mut Vec<u8>) -> Result<(), AllocError>
     Ok(())
 }
 
-// Appends the line of the processors.
+/// Appends the line of the processors.
 fn push_cpus_line(cpus: u8, out: &mut Vec<u8>) -> Result<(), AllocError>
     ensures { OnOk result (out.new.items ≡ out.old.items ++ with_line_feed (cpus_text cpus)) }
 {
@@ -65,7 +65,7 @@ fn push_cpus_line(cpus: u8, out: &mut Vec<u8>) -> Result<(), AllocError>
     Ok(())
 }
 
-// Appends the line of a task.
+/// Appends the line of a task.
 fn push_task_line(task: &Task, out: &mut Vec<u8>) -> Result<(), AllocError>
     ensures { OnOk result (out.new.items ≡ out.old.items ++ with_line_feed (task_text task.now)) }
 {
@@ -77,7 +77,7 @@ fn push_task_line(task: &Task, out: &mut Vec<u8>) -> Result<(), AllocError>
     Ok(())
 }
 
-// Appends the line of a lock.
+/// Appends the line of a lock.
 fn push_lock_line(lock: &Lock, out: &mut Vec<u8>) -> Result<(), AllocError>
     ensures { OnOk result (out.new.items ≡ out.old.items ++ with_line_feed (lock_text lock.now)) }
 {
@@ -88,7 +88,7 @@ fn push_lock_line(lock: &Lock, out: &mut Vec<u8>) -> Result<(), AllocError>
     Ok(())
 }
 
-// Whether a lock has a line of its own, as the cells of a local lock behind the first don't.
+/// Whether a lock has a line of its own, as the cells of a local lock behind the first don't.
 fn has_line(lock: &Lock) -> bool
     ensures { result ≡ is_first_cell lock.now.cell }
 {
@@ -98,7 +98,7 @@ fn has_line(lock: &Lock) -> bool
     }
 }
 
-// Appends the line of a lock, if it has one of its own.
+/// Appends the line of a lock, if it has one of its own.
 fn push_own_line(lock: &Lock, out: &mut Vec<u8>) -> Result<(), AllocError>
     ensures { OnOk result (out.new.items ≡ out.old.items ++ cond (is_first_cell lock.now.cell) (with_line_feed (lock_text lock.now)) []) }
 {
@@ -108,9 +108,45 @@ fn push_own_line(lock: &Lock, out: &mut Vec<u8>) -> Result<(), AllocError>
     Ok(())
 }
 
+/// Appends a call that sets a state.
+fn push_state(state: TaskState, out: &mut Vec<u8>) -> Result<(), AllocError>
+    ensures { OnOk result (out.new.items ≡ out.old.items ++ spaced (codes "state" ∷ state_word state ∷ [])) }
+{
+    push_word("state", out)?;
+    push_word(state_text(state), out)
+}
+
+/// Appends a call that moves to a processor.
+fn push_move(cpu: Cpu, out: &mut Vec<u8>) -> Result<(), AllocError>
+    ensures { OnOk result (out.new.items ≡ out.old.items ++ spaced (codes "move" ∷ decimal cpu.0 ∷ [])) }
+{
+    push_word("move", out)?;
+    push_number(cpu.0, out)
+}
+
+/// Appends the lines of tasks.
+fn push_tasks(tasks: &[Task], out: &mut Vec<u8>) -> Result<(), AllocError>
+    ensures { OnOk result (out.new.items ≡ out.old.items ++ flat_map (λ (task : TaskLine). with_line_feed (task_text task)) tasks.now) }
+{
+    for task in tasks {
+        push_task_line(task, out)?;
+    }
+    Ok(())
+}
+
+/// Appends the lines of locks.
+fn push_locks(locks: &[Lock], out: &mut Vec<u8>) -> Result<(), AllocError>
+    ensures { OnOk result (out.new.items ≡ out.old.items ++ flat_map (λ (lock : LockLine). cond (is_first_cell lock.cell) (with_line_feed (lock_text lock)) []) locks.now) }
+{
+    for lock in locks {
+        push_own_line(lock, out)?;
+    }
+    Ok(())
+}
+
 // Parts of the text.
 impl Script {
-    // Appends a verb and the name of a task.
+    /// Appends a verb and the name of a task.
     fn push_on_task(&self, verb: &str, t: TaskId, out: &mut Vec<u8>) -> Result<(), AllocError>
         ensures { OnOk result (out.new.items ≡ out.old.items ++ spaced (on_task self.now verb.now t)) }
     {
@@ -118,7 +154,7 @@ impl Script {
         push_word(self.name_of_task(t), out)
     }
 
-    // Appends a verb and the name of a lock.
+    /// Appends a verb and the name of a lock.
     fn push_on_lock(&self, verb: &str, l: LockId, out: &mut Vec<u8>) -> Result<(), AllocError>
         ensures { OnOk result (out.new.items ≡ out.old.items ++ spaced (on_lock self.now verb.now l)) }
     {
@@ -126,7 +162,7 @@ impl Script {
         push_word(self.name_of_lock(l), out)
     }
 
-    // The name of a task, and nothing where there is no such task.
+    /// The name of a task, and nothing where there is no such task.
     fn name_of_task(&self, t: TaskId) -> &str
         ensures { result.now ≡ (task_line self.now t).name }
     {
@@ -137,7 +173,7 @@ impl Script {
         }
     }
 
-    // The name of a lock, and nothing where there is no such lock.
+    /// The name of a lock, and nothing where there is no such lock.
     fn name_of_lock(&self, l: LockId) -> &str
         ensures { result.now ≡ (lock_line self.now l).name }
     {
@@ -148,7 +184,7 @@ impl Script {
         }
     }
 
-    // Appends the words of a call.
+    /// Appends the words of a call.
     fn push_call_words(&self, call: &Call, out: &mut Vec<u8>) -> Result<(), AllocError>
         ensures { OnOk result (out.new.items ≡ out.old.items ++ spaced (call_words self.now call.now)) }
     {
@@ -178,7 +214,7 @@ impl Script {
         }
     }
 
-    // Appends a call that sets a priority.
+    /// Appends a call that sets a priority.
     fn push_prio(&self, t: TaskId, prio: u8, out: &mut Vec<u8>) -> Result<(), AllocError>
         ensures { OnOk result (out.new.items ≡ out.old.items ++ spaced (on_task self.now (codes "setprio") t ++ decimal prio ∷ [])) }
     {
@@ -186,7 +222,7 @@ impl Script {
         push_number(prio, out)
     }
 
-    // Appends the line of a call.
+    /// Appends the line of a call.
     fn push_call_line(&self, task: &Task, call: &Call, out: &mut Vec<u8>) -> Result<(), AllocError>
         ensures { OnOk result (out.new.items ≡ out.old.items ++ with_line_feed (call_text self.now task.now call.now)) }
     {
@@ -197,7 +233,7 @@ impl Script {
         Ok(())
     }
 
-    // Appends the line of a pick.
+    /// Appends the line of a pick.
     fn push_pick_line(&self, t: TaskId, out: &mut Vec<u8>) -> Result<(), AllocError>
         ensures { OnOk result (out.new.items ≡ out.old.items ++ with_line_feed (pick_text self.now t)) }
     {
@@ -207,7 +243,7 @@ impl Script {
         Ok(())
     }
 
-    // Appends the lines of a task's calls.
+    /// Appends the lines of a task's calls.
     fn push_calls_of(&self, task: &Task, out: &mut Vec<u8>) -> Result<(), AllocError>
         ensures { OnOk result (out.new.items ≡ out.old.items ++ flat_map (λ call. with_line_feed (call_text self.now task.now call)) task.now.calls) }
     {
@@ -217,7 +253,7 @@ impl Script {
         Ok(())
     }
 
-    // Appends the lines of all calls, task by task.
+    /// Appends the lines of all calls, task by task.
     fn push_calls(&self, out: &mut Vec<u8>) -> Result<(), AllocError>
         ensures { OnOk result (out.new.items ≡ out.old.items ++ flat_map (λ (task : TaskLine). flat_map (λ call. with_line_feed (call_text self.now task call)) task.calls) self.now.tasks) }
     {
@@ -227,7 +263,7 @@ impl Script {
         Ok(())
     }
 
-    // Appends the lines of the picks.
+    /// Appends the lines of the picks.
     fn push_picks(&self, out: &mut Vec<u8>) -> Result<(), AllocError>
         ensures { OnOk result (out.new.items ≡ out.old.items ++ flat_map (λ t. with_line_feed (pick_text self.now t)) self.now.picks) }
     {
@@ -237,7 +273,7 @@ impl Script {
         Ok(())
     }
 
-    // Appends the whole text.
+    /// Appends the whole text.
     fn push_text(&self, out: &mut Vec<u8>) -> Result<(), AllocError>
         ensures text { OnOk result (out.new.items ≡ out.old.items ++ canonical self.now) }
         ensures valid { OnOk result (IsScript self.now) }
@@ -253,9 +289,9 @@ impl Script {
     }
 
     /// The canonical text of the script: the header, the number of processors, the tasks, the locks with a
-    /// local lock once, the calls of one task behind those of another, the picks, and `go`, each line ended
-    /// by a line feed, without comments or empty lines. By the rules of the script text it is this script, and
-    /// `read_script` takes it. An error is a want of memory.
+    /// local lock once, the calls of one task behind those of another, the picks, and `go`. Each line ends
+    /// with a line feed, and there are no comments and no empty lines. By the rules of the script text
+    /// it is this script, and `read_script` takes it. An error is a want of memory.
     pub fn write(&self, alloc: Global) -> Result<Vec<u8>, NoMemory>
         ensures text { IfOk result (λ text. text.items ≡ canonical self.now) }
         ensures parses { IfOk result (λ text. script_of text.items ≡ Ok self.now) }
@@ -265,40 +301,4 @@ impl Script {
         self.push_text(&mut text)?;
         Ok(text)
     }
-}
-
-// Appends a call that sets a state.
-fn push_state(state: TaskState, out: &mut Vec<u8>) -> Result<(), AllocError>
-    ensures { OnOk result (out.new.items ≡ out.old.items ++ spaced (codes "state" ∷ state_word state ∷ [])) }
-{
-    push_word("state", out)?;
-    push_word(state_text(state), out)
-}
-
-// Appends a call that moves to a processor.
-fn push_move(cpu: Cpu, out: &mut Vec<u8>) -> Result<(), AllocError>
-    ensures { OnOk result (out.new.items ≡ out.old.items ++ spaced (codes "move" ∷ decimal cpu.0 ∷ [])) }
-{
-    push_word("move", out)?;
-    push_number(cpu.0, out)
-}
-
-// Appends the lines of tasks.
-fn push_tasks(tasks: &[Task], out: &mut Vec<u8>) -> Result<(), AllocError>
-    ensures { OnOk result (out.new.items ≡ out.old.items ++ flat_map (λ (task : TaskLine). with_line_feed (task_text task)) tasks.now) }
-{
-    for task in tasks {
-        push_task_line(task, out)?;
-    }
-    Ok(())
-}
-
-// Appends the lines of locks.
-fn push_locks(locks: &[Lock], out: &mut Vec<u8>) -> Result<(), AllocError>
-    ensures { OnOk result (out.new.items ≡ out.old.items ++ flat_map (λ (lock : LockLine). cond (is_first_cell lock.cell) (with_line_feed (lock_text lock)) []) locks.now) }
-{
-    for lock in locks {
-        push_own_line(lock, out)?;
-    }
-    Ok(())
 }

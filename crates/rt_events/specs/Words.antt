@@ -1,5 +1,5 @@
 -- The words of journals and reports.
-use Rattle.std.specs.Prelude.{ℕ, Bool, true, false, List, [], ◌∷◌, ◌++◌, Option, Some, None, codes, decimal}
+use Rattle.std.specs.Prelude.{ℕ, List, [], ◌∷◌, ◌++◌, Option, Some, None, codes, decimal, nat_eq, if◌then◌else◌}
 use Rattle.std.specs.List.{flat_map}
 use Rattle.rt_base.specs.Script.{Script, task_line, lock_line}
 use Rattle.rt_base.specs.declared.ended.Ended.{Ended}
@@ -18,32 +18,37 @@ use Rattle.rt_model.specs.declared.event_kind.EventKind.TheVariants as kinds
 abbrev pub spaced : List (List ℕ) → List ℕ
 spaced words = flat_map (λ word. 32 ∷ word) words
 
-abbrev pub kind_word : EventKind → List ℕ
-kind_word kinds.Fast = codes "fast"
-kind_word kinds.Free = codes "free"
-kind_word kinds.Mark = codes "mark"
-kind_word kinds.Take = codes "take"
-kind_word kinds.Wait = codes "wait"
-kind_word kinds.Walk = codes "walk"
-kind_word kinds.WalkEnd = codes "walkend"
-kind_word kinds.Restart = codes "restart"
-kind_word kinds.Cycle = codes "cycle"
-kind_word kinds.Again = codes "again"
-kind_word kinds.Leave = codes "leave"
-kind_word kinds.Give = codes "give"
-kind_word kinds.RIn = codes "rin"
-kind_word kinds.ROut = codes "rout"
-kind_word kinds.Unbias = codes "unbias"
-kind_word kinds.WTake = codes "wtake"
-kind_word kinds.WSleep = codes "wsleep"
-kind_word kinds.WOpen = codes "wopen"
-kind_word kinds.WWake = codes "wwake"
-kind_word kinds.Busy = codes "busy"
-kind_word kinds.State = codes "state"
-kind_word kinds.Sched = codes "sched"
-kind_word kinds.Wake = codes "wake"
-kind_word kinds.SetPrio = codes "setprio"
-kind_word kinds.Own = codes "own"
+-- a wake that carries 1 is a signal's
+abbrev pub wake_word : ℕ → List ℕ
+wake_word value = if nat_eq value 1 then codes "signal" else codes "wake"
+
+-- the word of a kind, where the event carries this number
+abbrev pub kind_word : EventKind → ℕ → List ℕ
+kind_word kinds.Fast value = codes "fast"
+kind_word kinds.Free value = codes "free"
+kind_word kinds.Mark value = codes "mark"
+kind_word kinds.Take value = codes "take"
+kind_word kinds.Wait value = codes "wait"
+kind_word kinds.Walk value = codes "walk"
+kind_word kinds.WalkEnd value = codes "walkend"
+kind_word kinds.Restart value = codes "restart"
+kind_word kinds.Cycle value = codes "cycle"
+kind_word kinds.Again value = codes "again"
+kind_word kinds.Leave value = codes "leave"
+kind_word kinds.Give value = codes "give"
+kind_word kinds.RIn value = codes "rin"
+kind_word kinds.ROut value = codes "rout"
+kind_word kinds.Unbias value = codes "unbias"
+kind_word kinds.WTake value = codes "wtake"
+kind_word kinds.WSleep value = codes "wsleep"
+kind_word kinds.WOpen value = codes "wopen"
+kind_word kinds.WWake value = codes "wwake"
+kind_word kinds.Busy value = codes "busy"
+kind_word kinds.State value = codes "state"
+kind_word kinds.Sched value = codes "sched"
+kind_word kinds.Wake value = wake_word value
+kind_word kinds.SetPrio value = codes "setprio"
+kind_word kinds.Own value = codes "own"
 
 abbrev pub reply_word : Reply → List ℕ
 reply_word replies.Got = codes "got"
@@ -63,17 +68,21 @@ state_word states.Interruptible = codes "S"
 state_word states.Uninterruptible = codes "D"
 state_word states.LockWait = codes "L"
 
+-- the state of a number: R, S or D
+abbrev pub state_numbered : ℕ → TaskState
+state_numbered value = if nat_eq value 0 then states.Running else if nat_eq value 1 then states.Interruptible else states.Uninterruptible
+
 abbrev pub end_word : Ended → List ℕ
 end_word ends.Done = codes "done"
 end_word ends.Stuck = codes "stuck"
 end_word ends.Limit = codes "limit"
 
-abbrev pub bit_word : Bool → List ℕ
-bit_word true = codes "1"
-bit_word false = codes "0"
-
 abbrev pub task_word : Script → TaskId → List ℕ
 task_word script t = (task_line script t).name
+
+abbrev pub task_or_dash : Script → Option TaskId → List ℕ
+task_or_dash script None = codes "-"
+task_or_dash script (Some t) = task_word script t
 
 -- the cell of a local lock is told by its processor
 abbrev pub cell_word : Option Cpu → List ℕ

@@ -1,10 +1,12 @@
 -- A link of a path at its place, and the path's text, which grows by a link.
-use Rattle.std.proofs.Common.{◌≡◌, ◌⊎◌, inl, inr, ℕ, ◌+◌, ◌<◌, ◌≤◌, List, [], ◌∷◌, ◌++◌, map, take, get_or, length, ap, sym, subst, ◌∙◌, Some, None, append-nil}
+use Rattle.std.proofs.Common.{◌≡◌, ◌⊎◌, inl, inr, ℕ, ◌+◌, ◌<◌, ◌≤◌, List, [], ◌∷◌, ◌++◌, map, take, get_or, length, ap, sym, subst, ◌∙◌, Some, None, append-nil, All}
 use Rattle.std.specs.Prelude.{slice_get}
 use Rattle.std.proofs.lemmas.Option.{slice_get_cases}
 use Rattle.std.proofs.lemmas.List.{map_more}
 use Rattle.std.proofs.lemmas.Grind.{flat_map-append}
 use Rattle.rt_base.specs.Script.{Script}
+use Rattle.std.proofs.lemmas.List.Elements.{All-more}
+use Rattle.rt_events.specs.WellFormed.{IsLinkIn}
 use Rattle.rt_events.specs.Words.{spaced}
 use Rattle.rt_events.specs.Line.{link_word}
 
@@ -32,3 +34,9 @@ path_more script path i link is =
     ap spaced (map_more (link_word script) path i link at.lt)
     ∙ (spaced_more (map (link_word script) (take i path)) (link_word script (get_or path i link))
     ∙ ap (λ (l : ℕ × ℕ). spaced (map (link_word script) (take i path)) ++ 32 ∷ link_word script l) at.same)
+
+-- a link more that is the script's
+pub links_more : (script : Script) (path : List (ℕ × ℕ)) (i : ℕ) (link : ℕ × ℕ) → slice_get path i ≡ Some link → All (IsLinkIn script) (take i path) → IsLinkIn script link → All (IsLinkIn script) (take (i + 1) path)
+links_more script path i link is before one =
+    let at = at_place path i link is in
+    All-more (IsLinkIn script) path i link at.lt before (subst (IsLinkIn script) (sym at.same) one)

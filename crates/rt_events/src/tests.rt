@@ -18,7 +18,7 @@ const D: TaskId = TaskId(3);
 const M: LockId = LockId(0);
 
 // The cell of processor 1 of a local lock.
-const L1: LockId = LockId(2);
+const CELL: LockId = LockId(2);
 
 // A reader/writer semaphore.
 const X: LockId = LockId(3);
@@ -80,7 +80,7 @@ fn answered(reply: Reply, e: &Event) -> Event {
 fn along(e: &Event) -> Event {
     let mut path = Path::empty();
     path.push(A, M);
-    path.push(B, L1);
+    path.push(B, CELL);
     Event { path, ..*e }
 }
 
@@ -103,10 +103,10 @@ fn tells(rt: &impl Abort, script: &Script, e: &Event, want: &str, out: &mut Vec<
 fn each_kind_on_a_queue_has_its_line(rt: HostRuntime) -> Result<(), Fail> {
     let script = read_script(rt.alloc(), TEXT.as_bytes())?;
     let mut out = Vec::with_capacity(rt.alloc(), 4096)?;
-    let (walk, give) = (on(Walk, L1), on(Give, M));
+    let (walk, give) = (on(Walk, CELL), on(Give, M));
     for (e, want) in [
         (answered(Got, &on(Fast, M)), "7 a fast m -> got\n"),
-        (answered(Done, &on(Free, L1)), "7 a free l.1 -> done\n"),
+        (answered(Done, &on(Free, CELL)), "7 a free l.1 -> done\n"),
         (on(Mark, M), "7 a mark m\n"),
         (answered(Got, &on(Take, M)), "7 a take m -> got\n"),
         (with(Some(B), None, &on(Wait, M)), "7 a wait m\n"),
@@ -116,7 +116,7 @@ fn each_kind_on_a_queue_has_its_line(rt: HostRuntime) -> Result<(), Fail> {
         ),
         (about(B, &walk), "7 a walk b l.1\n"),
         (about(B, &bare(WalkEnd)), "7 a walkend b\n"),
-        (about(B, &along(&on(Restart, L1))), "7 a restart b l.1\n"),
+        (about(B, &along(&on(Restart, CELL))), "7 a restart b l.1\n"),
         (
             answered(Deadlock, &along(&on(Cycle, M))),
             "7 a cycle a m b l.1 -> deadlock\n",
@@ -165,7 +165,7 @@ fn each_other_kind_has_its_line(rt: HostRuntime) -> Result<(), Fail> {
             "7 a setprio b 139\n",
         ),
         (
-            answered(NotOwner, &on(Own, L1)),
+            answered(NotOwner, &on(Own, CELL)),
             "7 a own l.1 -> notowner\n",
         ),
         (answered(Nesting, &bare(Own)), "7 a own -> nesting\n"),
@@ -222,7 +222,7 @@ fn entry_of_another_shape_is_not_well_formed(rt: HostRuntime) -> Result<(), Fail
 // The objects that are asked for.
 const ALL: [Obj; 9] = [
     Obj::OwnerPart(M),
-    Obj::OwnerPart(L1),
+    Obj::OwnerPart(CELL),
     Obj::ReaderPart(M),
     Obj::Task(A),
     Obj::Task(B),
@@ -242,7 +242,7 @@ fn touches_these(rt: &impl Abort, e: &Event, want: &[Obj]) {
 
 #[test]
 fn each_kind_has_its_footprint(rt: HostRuntime) {
-    let (lock, first, readers) = (Obj::OwnerPart(L1), Obj::OwnerPart(M), Obj::ReaderPart(M));
+    let (lock, first, readers) = (Obj::OwnerPart(CELL), Obj::OwnerPart(M), Obj::ReaderPart(M));
     let (own, other, owner) = (Obj::Task(A), Obj::Task(B), Obj::Task(C));
     let woken = Obj::Task(D);
     for (kind, want) in [
@@ -266,7 +266,7 @@ fn each_kind_has_its_footprint(rt: HostRuntime) {
         (SetPrio, [other].as_slice()),
         (Own, [].as_slice()),
     ] {
-        let e = with(Some(C), Some(D), &about(B, &along(&on(kind, L1))));
+        let e = with(Some(C), Some(D), &about(B, &along(&on(kind, CELL))));
         touches_these(&rt, &e, want);
     }
     for (kind, want) in [
@@ -292,7 +292,7 @@ fn waits_for_c() -> Event {
 fn events_are_disjoint_by_what_they_touch(rt: HostRuntime) {
     for (a, b, want) in [
         (on(Fast, M), by(B, &on(Fast, M)), false),
-        (on(Fast, M), by(B, &on(Fast, L1)), true),
+        (on(Fast, M), by(B, &on(Fast, CELL)), true),
         (on(Fast, M), by(B, &on(RIn, M)), true),
         (on(Fast, M), on(RIn, X), false),
         (waits_for_c(), by(C, &bare(State)), false),
@@ -304,7 +304,7 @@ fn events_are_disjoint_by_what_they_touch(rt: HostRuntime) {
             false,
         ),
         (along(&on(Cycle, M)), by(B, &on(Take, X)), false),
-        (along(&on(Cycle, M)), by(B, &on(Fast, L1)), true),
+        (along(&on(Cycle, M)), by(B, &on(Fast, CELL)), true),
         (bare(Own), by(B, &bare(Own)), true),
     ] {
         assert_eq!(rt; disjoint(&a, &b), want);

@@ -1,3 +1,6 @@
+ghost use Rattle.std.specs.Prelude.{◌≡◌, length};
+ghost use Rattle.rt_base.specs.Text.{state_word};
+
 /// What a task is up to, as the kernel's `task_struct::__state`.
 #[derive(Clone, Copy, Debug, PartialEq, Eq)]
 pub enum TaskState {
@@ -9,4 +12,19 @@ pub enum TaskState {
     Uninterruptible,
     /// `TASK_RTLOCK_WAIT`, written L: only the lock's own wakeup ends it.
     LockWait,
+}
+
+impl TaskState {
+    /// The letter that scripts, journals and reports have for the state.
+    pub fn letter(self) -> &'static str
+        ensures word { result.now ≡ state_word self }
+        ensures one { length result.now ≡ 1 }
+    {
+        match self {
+            TaskState::Running => "R",
+            TaskState::Interruptible => "S",
+            TaskState::Uninterruptible => "D",
+            TaskState::LockWait => "L",
+        }
+    }
 }

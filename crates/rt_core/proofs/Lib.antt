@@ -6,3 +6,4 @@ pub mod Applying
 pub mod Queues
 pub mod Tops
 pub mod Notes
+pub mod Told

@@ -1,5 +1,3 @@
-pub mod Words
-pub mod Line
 pub mod Report
 pub mod Text
 pub mod Made
@@ -17,3 +15,6 @@ pub use Rattle.rt_model.specs.After
 pub use Rattle.rt_model.specs.Run
 pub use Rattle.rt_model.specs.Order
 pub use Rattle.rt_model.specs.Laws
+pub use Rattle.rt_events.specs.Words
+pub use Rattle.rt_events.specs.Entry
+pub use Rattle.rt_events.specs.WellFormed

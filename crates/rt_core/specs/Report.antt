@@ -1,5 +1,5 @@
 -- The report: where each task and each lock stands.
-use Rattle.std.specs.Prelude.{ℕ, zero, suc, ◌+◌, ◌-◌, ◌<◌, List, [], ◌∷◌, ◌++◌, length, map, Option, Some, None, codes, decimal, nat_lt, if◌then◌else◌}
+use Rattle.std.specs.Prelude.{ℕ, zero, suc, ◌+◌, ◌-◌, ◌<◌, Bool, true, false, List, [], ◌∷◌, ◌++◌, length, map, Option, Some, None, codes, decimal, nat_lt, if◌then◌else◌}
 use Rattle.rt_base.specs.Script.{Script}
 use Rattle.rt_base.specs.declared.call.Call.{Call}
 use Rattle.rt_base.specs.declared.id.LockId.{LockId}
@@ -16,8 +16,7 @@ use Rattle.rt_model.specs.NextEvent.{called_lock}
 use Rattle.rt_model.specs.Run.{is_enabled}
 use Rattle.rt_core.specs.declared.note.Note.{Note}
 use Rattle.rt_core.specs.declared.note.Note.TheVariants as notes
-use Rattle.rt_core.specs.Words.{spaced, state_word, bit_word, task_word, lock_word}
-use Rattle.rt_core.specs.Line.{task_or_dash}
+use Rattle.rt_events.specs.Words.{spaced, state_word, task_word, task_or_dash, lock_word}
 
 -- where a task that has no next event waits: queued at a lock, for readers, or for a wakeup
 abbrev pub blocked_note : Option (LockId × ℕ) → Note
@@ -77,6 +76,10 @@ task_line_of script t task thread note =
 
 abbrev pub task_report : Script → State → TaskId → List ℕ
 task_report script s t = task_line_of script t (task_part s t) (thread_part s t) (note_of s t)
+
+abbrev pub bit_word : Bool → List ℕ
+bit_word true = codes "1"
+bit_word false = codes "0"
 
 -- bias, write flag and count, at the reader/writer kinds
 abbrev pub reader_words : Kind → ReaderCell → List (List ℕ)

@@ -1,5 +1,5 @@
 // The parts of a choice: which event a call makes, from the parts that it looks at.
-ghost use Rattle.std.specs.Prelude.{◌≡◌, ◌≤◌, length, Some};
+ghost use Rattle.std.specs.Prelude.{◌≡◌, ◌≤◌, length, Some, IfSome};
 ghost use Rattle.rt_model.specs.NextEvent.{bare, acquire, release, boost_of, take_event, give_event, awake_event, queued_event, spinning_hold, spinning_holds};
 ghost use Rattle.rt_model.specs.Rows.{may_take};
 ghost use Rattle.rt_core.specs.Machine.{parts_of};
@@ -45,6 +45,17 @@ pub fn boost_of(t: TaskId, before: Prio, after: Prio) -> Option<(TaskId, Prio)>
         None
     } else {
         Some((t, after))
+    }
+}
+
+/// Changes nothing; its clause says that the new priority of an event's boost is one.
+pub fn boost_within(event: &Option<Event>)
+    ensures { IfSome event.now (λ e. IfSome e.boost (λ boost. boost.1 ≤ 139)) }
+{
+    if let Some(e) = event
+        && let Some((_, prio)) = e.boost
+    {
+        let _number = prio.get();
     }
 }
 

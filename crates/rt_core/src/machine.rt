@@ -10,13 +10,15 @@ ghost use Rattle.rt_model.specs.Run.{is_done, is_stuck, is_enabled, lowest};
 ghost use Rattle.rt_model.specs.Order.{is_walking};
 ghost use Rattle.rt_model.specs.declared.obj.Obj.{Obj};
 ghost use Rattle.rt_base.specs.Script.{Script, HasOneMutex};
+ghost use Rattle.rt_events.specs.Entry.{entry};
+ghost use Rattle.rt_events.specs.WellFormed.{IsWellFormed};
 ghost use Rattle.rt_core.specs.Report.{IsNoteWithin, note_of, call_note, blocked_note, readers_note, report_line_of, task_report, lock_report};
 ghost use Rattle.rt_core.specs.Made.{Made};
 
 use crate::beginning::{lock_cells, task_cells, threads};
 use crate::change::{advance_thread, change_locks, change_tasks};
 use crate::choice::{
-    acquire_event, bare, boost_of, may_take, own_event, queued_event, release_event,
+    acquire_event, bare, boost_of, boost_within, may_take, own_event, queued_event, release_event,
     spinning_holds, take_event,
 };
 use crate::filled::filled;
@@ -210,15 +212,19 @@ impl Core {
         }
     }
 
-    /// The one event that a task may make now. It depends on nothing but what it touches.
+    /// The one event that a task may make now. It depends on nothing but what it touches, and its entry
+    /// is well formed for the core's script.
     pub fn next(&self, t: TaskId) -> Option<Event>
         requires { t.0 < length self.now.state.threads }
         ensures event { result ≡ next_event self.now.state t }
         ensures task { IfSome result (λ e. e.task ≡ t) }
         ensures within { IfSome result (IsWithin (length self.now.state.threads) (length self.now.state.locks)) }
+        ensures told { IfSome result (λ e. (script : Script) (number : ℕ) → IsOf script self.now.state → number < 2 ^ 64 → IsWellFormed script (entry number e)) }
         ensures local { IfSome result (λ e. (s : State) (made : ℕ) → IsLawful s made → AgreeOn e self.now.state s → next_event s t ≡ Some e) }
     {
-        self.event_of(t)
+        let event = self.event_of(t);
+        boost_within(&event);
+        event
     }
 
     // The event of the call that a task is at.

@@ -1,32 +1,19 @@
 ghost use Rattle.std.specs.Prelude.{◌≡◌, ◌+◌, ◌*◌, ◌<◌, ◌≤◌, ◌∷◌, ◌++◌, length, map, vec_len, All, IfSome};
 ghost use Rattle.std.specs.Vec.{vec_capacity};
-ghost use Rattle.rt_core.specs.Words.{spaced};
-ghost use Rattle.rt_core.specs.Report.{priority_words, progress_words, note_words, task_line_of, owner_words, reader_words, row_word, lock_line_of, IsNoteWithin};
-ghost use Rattle.rt_core.specs.Text.{end_line};
+ghost use Rattle.rt_events.specs.Words.{spaced};
+ghost use Rattle.rt_core.specs.Report.{bit_word, priority_words, progress_words, note_words, task_line_of, owner_words, reader_words, row_word, lock_line_of, IsNoteWithin};
 
-use crate::append::{append, push_byte, push_digits, push_number, push_word};
 use crate::lock_cell::LockCell;
 use crate::note::Note;
 use crate::task_cell::TaskCell;
 use crate::thread::Thread;
-use crate::words::{
-    WORD_ROOM, bit_text, end_text, push_lock, push_task, push_task_or_dash, state_text,
+use rt_base::{Kind, LockId, TaskId};
+use rt_events::{
+    WORD_ROOM, append, push_byte, push_digits, push_lock, push_number, push_task,
+    push_task_or_dash, push_word,
 };
-use rt_base::{Ended, Kind, LockId, TaskId};
 use rt_model::{ReaderCell, Row};
 use rt_script::Script;
-
-/// Writes the line between a journal and its report, which tells how the run ended.
-pub fn write_end_line(ended: Ended, out: &mut Vec<u8>)
-    requires room { vec_len out.old + 4096 ≤ vec_capacity out.old }
-    ensures text { out.new.items ≡ out.old.items ++ end_line ended }
-    ensures short { length (end_line ended) < 4096 }
-    ensures capacity { vec_capacity out.old ≤ vec_capacity out.new }
-{
-    append(out, b"end");
-    push_word(out, end_text(ended));
-    push_byte(out, b'\n');
-}
 
 /// Writes a task's line of the report, of less than 4,096 bytes.
 pub(crate) fn write_task_line(
@@ -71,8 +58,8 @@ fn push_progress(cell: &TaskCell, thread: &Thread, out: &mut Vec<u8>)
     ensures grows { vec_len out.new ≤ vec_len out.old + 3 * WORD_ROOM }
     ensures capacity { vec_capacity out.old ≤ vec_capacity out.new }
 {
-    push_word(out, state_text(cell.state()));
-    push_word(out, state_text(cell.saved()));
+    push_word(out, cell.state().letter());
+    push_word(out, cell.saved().letter());
     push_number(out, thread.answered() as u64);
     push_byte(out, b'/');
     push_digits(out, thread.calls() as u64);
@@ -131,6 +118,14 @@ pub(crate) fn write_lock_line(
     push_byte(out, b'\n');
 }
 
+// A bit as a digit.
+fn bit_text(bit: bool) -> &'static str
+    ensures word { result.now ≡ bit_word bit }
+    ensures short { length result.now ≤ 16 }
+{
+    if bit { "1" } else { "0" }
+}
+
 // Appends a lock's name, its owner and its waiters bit.
 fn push_owner(script: &Script, l: LockId, cell: &LockCell, out: &mut Vec<u8>)
     requires lock { l.0 < length script.now.locks }
@@ -187,20 +182,4 @@ fn push_row(script: &Script, row: &Row, out: &mut Vec<u8>)
     push_task(script, TaskId(row.who), out);
     push_byte(out, b':');
     push_digits(out, row.key);
-}
-
-#[cfg(test)]
-mod tests {
-    use super::*;
-    use std::test::Fail;
-
-    #[test]
-    fn end_line_tells_how_it_ended(rt: HostRuntime) -> Result<(), Fail> {
-        for (ended, want) in [(Ended::Done, "end done\n"), (Ended::Stuck, "end stuck\n")] {
-            let mut out = Vec::with_capacity(rt.alloc(), 4096)?;
-            write_end_line(ended, &mut out);
-            assert_eq!(rt; out.as_slice(), want.as_bytes());
-        }
-        Ok(())
-    }
 }

@@ -25,18 +25,6 @@ fn kind_text(kind: Kind) -> &'static str
     }
 }
 
-/// The letter for a state.
-fn state_text(state: TaskState) -> &'static str
-    ensures { result.now ≡ state_word state }
-{
-    match state {
-        TaskState::Running => "R",
-        TaskState::Interruptible => "S",
-        TaskState::Uninterruptible => "D",
-        TaskState::LockWait => "L",
-    }
-}
-
 /// Appends a word behind a space.
 fn push_word(word: &str, out: &mut Vec<u8>) -> Result<(), AllocError>
     ensures { OnOk result (out.new.items ≡ out.old.items ++ 32 ∷ word.now) }
@@ -113,7 +101,7 @@ fn push_state(state: TaskState, out: &mut Vec<u8>) -> Result<(), AllocError>
     ensures { OnOk result (out.new.items ≡ out.old.items ++ spaced (codes "state" ∷ state_word state ∷ [])) }
 {
     push_word("state", out)?;
-    push_word(state_text(state), out)
+    push_word(state.letter(), out)
 }
 
 /// Appends a call that moves to a processor.

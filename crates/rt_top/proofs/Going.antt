@@ -9,8 +9,9 @@ use Rattle.rt_model.specs.After.{state_after}
 use Rattle.rt_model.specs.Run.{after}
 use Rattle.rt_model.specs.Order.{Played, stop, then_play}
 use Rattle.rt_model.proofs.Runs.{after-append}
-use Rattle.rt_core.specs.Line.{entry, line_of}
-use Rattle.rt_core.specs.Text.{lines_of}
+use Rattle.rt_events.specs.Entry.{entry}
+use Rattle.rt_events.specs.Line.{line_of}
+use Rattle.rt_events.specs.Journal.{lines_of}
 use Rattle.rt_top.specs.declared.progress.Progress.{Progress}
 use Rattle.rt_top.specs.Printing.{HandsOn}
 use Rattle.rt_top.specs.Playing.{Moves, Stops}

@@ -11,7 +11,8 @@ use Rattle.rt_model.specs.Order.{Played, picked, chosen, replayed}
 use Rattle.rt_model.proofs.Runs.{replayed_leads}
 use Rattle.rt_core.specs.Made.{Made}
 use Rattle.rt_core.specs.Report.{report_of}
-use Rattle.rt_core.specs.Text.{header, lines_of, end_line, text_of}
+use Rattle.rt_events.specs.Journal.{header, lines_of, end_line}
+use Rattle.rt_core.specs.Text.{text_of}
 use Rattle.rt_top.specs.Status.{status_of}
 use Rattle.rt_top.specs.Answer.{Output, IsPrinted, Replays}
 use Rattle.rt_top.proofs.Going.{lines_of-append}

@@ -5,27 +5,19 @@ use Rattle.rt_base.specs.declared.fault.Failed.{Failed}
 use Rattle.rt_base.specs.declared.id.TaskId.{TaskId}
 use Rattle.rt_base.specs.Outside.{Rises}
 use Rattle.rt_base.proofs.Outside.{Rises-then}
-use Rattle.rt_model.specs.declared.event.Event.{Event}
 use Rattle.rt_model.specs.State.{State}
-use Rattle.rt_model.specs.Laws.{IsOf, IsWithin}
+use Rattle.rt_model.specs.Laws.{IsOf}
 use Rattle.rt_model.specs.NextEvent.{next_event}
 use Rattle.rt_model.specs.Order.{Played, stop, picked, chosen, chosen_task, then_play}
-use Rattle.rt_model.proofs.Starts.{IsOf-tasks, IsOf-locks}
+use Rattle.rt_model.proofs.Starts.{IsOf-tasks}
 use Rattle.rt_model.proofs.Lowest.{chosen_below}
 use Rattle.rt_model.proofs.Runs.{Leads}
 use Rattle.rt_core.specs.Made.{Made}
-use Rattle.rt_core.specs.Line.{entry, IsEntry}
-use Rattle.rt_core.specs.Text.{lines_of}
+use Rattle.rt_events.specs.Journal.{lines_of}
 use Rattle.rt_top.specs.declared.progress.Progress.{Progress}
 use Rattle.rt_top.specs.Printing.{Prints}
 use Rattle.rt_top.specs.Playing.{IsPartMade, Moves, Stops}
 use Rattle.rt_top.proofs.Going.{Going, Gone, moves_on, stops_at, ends}
-
--- what an event names is in the script
-pub IsEntry-event : (script : Script) (s : State) (number : ℕ) (e : Event) → IsOf script s → IsWithin (length s.threads) (length s.locks) e → IsEntry script (entry number e)
-IsEntry-event script s number e is within =
-    let there = subst (λ (n : ℕ). IsWithin (length script.tasks) n e) (IsOf-locks script s is) (subst (λ (n : ℕ). IsWithin n (length s.locks) e) (IsOf-tasks script s is) within) in
-    record { task = there.task; lock = there.lock; woken = there.woken; boost = there.boost }
 
 -- a run is being made and told from this core, this buffer and this sink on
 pub record Looping (script : Script) (first : ℕ) (s0 : State) (whole rest : Played) (s : State) (made0 made : ℕ) (now : Progress) (h0 : Option (List ℕ)) (b0 : List ℕ) (h : Option (List ℕ)) (b : List ℕ) (f0 f room0 room : ℕ) : Type 0 where

@@ -1,5 +1,5 @@
 -- What each answer of the top call says.
-use Rattle.std.specs.Prelude.{◌≡◌, ℕ, ◌+◌, ◌≤◌, List, [], ◌∷◌, length, Option, Some, None, Result, Ok, Err, codes}
+use Rattle.std.specs.Prelude.{◌≡◌, ℕ, ◌+◌, ◌≤◌, List, [], ◌∷◌, length, Option, Result, Ok, Err, codes}
 use Rattle.rt_base.specs.declared.ended.Ended.{Ended}
 use Rattle.rt_base.specs.declared.ended.Ended.TheVariants as ends
 use Rattle.rt_base.specs.Outside.{Rises, IsAtEnd, Appends, AppendsFront}

@@ -18,5 +18,7 @@ pub use Rattle.rt_model.specs.Called
 pub use Rattle.rt_model.specs.Sound
 pub use Rattle.rt_script.specs.Grammar
 pub use Rattle.rt_core.specs.Text
-pub use Rattle.rt_core.specs.Line
+pub use Rattle.rt_events.specs.Entry
+pub use Rattle.rt_events.specs.Line
+pub use Rattle.rt_events.specs.Journal
 pub use Rattle.rt_core.specs.Report

@@ -8,7 +8,8 @@ use Rattle.rt_model.specs.State.{State}
 use Rattle.rt_model.specs.After.{state_after}
 use Rattle.rt_model.specs.Run.{after}
 use Rattle.rt_core.specs.Made.{Made}
-use Rattle.rt_core.specs.Line.{entry, line_of}
+use Rattle.rt_events.specs.Entry.{entry}
+use Rattle.rt_events.specs.Line.{line_of}
 use Rattle.rt_top.specs.declared.progress.Progress.{Progress}
 use Rattle.rt_top.specs.Printing.{HandsOn}
 

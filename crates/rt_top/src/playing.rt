@@ -6,8 +6,10 @@ ghost use Rattle.rt_model.specs.NextEvent.{next_event};
 ghost use Rattle.rt_model.specs.After.{state_after};
 ghost use Rattle.rt_model.specs.Order.{picked, chosen};
 ghost use Rattle.rt_model.specs.Run.{ended_of};
-ghost use Rattle.rt_core.specs.Line.{entry, line_of, IsEntry};
-ghost use Rattle.rt_core.specs.Text.{lines_of};
+ghost use Rattle.rt_events.specs.Entry.{entry};
+ghost use Rattle.rt_events.specs.Line.{line_of};
+ghost use Rattle.rt_events.specs.WellFormed.{IsWellFormed};
+ghost use Rattle.rt_events.specs.Journal.{lines_of};
 ghost use Rattle.rt_top.specs.Printing.{Prints};
 ghost use Rattle.rt_top.specs.Playing.{IsPartMade, Moves, Stops};
 
@@ -15,7 +17,8 @@ use crate::order::pick_next;
 use crate::printing::{LINE_ROOM, hand_over, make_room};
 use crate::progress::Progress;
 use rt_base::{Ended, Failed, Sink, TaskId};
-use rt_core::{Core, entry_of, write_line};
+use rt_core::Core;
+use rt_events::{entry_of, write_line};
 use rt_model::Event;
 use rt_script::Script;
 
@@ -30,7 +33,7 @@ fn make_event<K: Sink>(
 ) -> Result<(), Failed>
     requires next { next_event core.old.state e.now.task ≡ Some e.now }
     requires script { IsOf script.now core.old.state }
-    requires entry { IsEntry script.now (entry number e.now) }
+    requires entry { IsWellFormed script.now (entry number e.now) }
     requires made { core.old.made < 2 ^ 62 }
     requires room { LINE_ROOM ≤ vec_capacity buf.old }
     ensures prints { Prints result (K.held out.old) buf.old.items (K.held out.new) buf.new.items (K.faults out.old) (K.faults out.new) (line_of script.now (entry number e.now)) }

@@ -6,13 +6,15 @@ ghost use Rattle.rt_model.specs.Laws.{IsOf};
 ghost use Rattle.rt_model.specs.State.{start};
 ghost use Rattle.rt_model.specs.Run.{after, ended_of};
 ghost use Rattle.rt_model.specs.Order.{replayed};
-ghost use Rattle.rt_core.specs.Text.{header, lines_of, text_of};
+ghost use Rattle.rt_events.specs.Journal.{header, lines_of};
+ghost use Rattle.rt_core.specs.Text.{text_of};
 
 use crate::playing::{finish, run_picks};
 use crate::printing::{LINE_ROOM, hand_over};
 use crate::reporting::write_report;
 use rt_base::{Ended, Failed, Sink};
-use rt_core::{Core, write_header};
+use rt_core::Core;
+use rt_events::write_header;
 use rt_script::Script;
 
 // Writes the first line of a journal.

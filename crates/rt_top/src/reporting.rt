@@ -2,12 +2,13 @@ ghost use Rattle.std.specs.Prelude.{◌≡◌, ◌≤◌, [], ◌++◌, vec_capa
 ghost use Rattle.rt_base.specs.Outside.{Writes};
 ghost use Rattle.rt_model.specs.Laws.{IsOf};
 ghost use Rattle.rt_core.specs.Report.{report_of};
-ghost use Rattle.rt_core.specs.Text.{end_line};
+ghost use Rattle.rt_events.specs.Journal.{end_line};
 ghost use Rattle.rt_top.specs.Printing.{Prints};
 
 use crate::printing::{LINE_ROOM, hand_over, make_room};
 use rt_base::{Ended, Failed, Sink};
-use rt_core::{Core, write_end_line};
+use rt_core::Core;
+use rt_events::write_end_line;
 use rt_script::Script;
 
 /// Writes the line that tells how the run ended, and the report. `Failed` comes only from the sink.

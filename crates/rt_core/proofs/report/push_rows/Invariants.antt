@@ -1,6 +1,6 @@
 use Rattle.std.proofs.Common.{◌≡◌, ◌+◌, ◌*◌, ◌≤◌, ◌++◌, map, take, vec_len}
 use Rattle.std.specs.Vec.{vec_capacity}
-use Rattle.rt_core.specs.Words.{spaced}
+use Rattle.rt_events.specs.Words.{spaced}
 use Rattle.rt_core.specs.Report.{row_word}
 use Rattle.rt_core.proofs.report.push_rows.Given as goal
 

@@ -1,5 +1,6 @@
 use Rattle.std.proofs.Common.{◌++◌, ◌∙◌, ap}
-use Rattle.rt_core.specs.Line.{entry, line_of}
+use Rattle.rt_events.specs.Entry.{entry}
+use Rattle.rt_events.specs.Line.{line_of}
 use Rattle.rt_top.proofs.Printed.{Prints-stopped, Prints-gathered}
 use Rattle.rt_top.proofs.playing.make_event.Goals as goal
 

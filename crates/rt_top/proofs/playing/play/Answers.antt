@@ -1,7 +1,6 @@
-use Rattle.std.proofs.Common.{◌+◌, ◌∙◌, ap, sym}
+use Rattle.std.proofs.Common.{◌+◌, ◌∙◌, ap, sym, arith}
 use Rattle.rt_model.specs.NextEvent.{next_event}
 use Rattle.rt_model.proofs.NextEvents.{task-next_event}
-use Rattle.rt_top.proofs.Loops.{IsEntry-event}
 use Rattle.rt_top.proofs.playing.play.Goals as goal
 
 pub make_event-requires-clause-next : goal.make_event-requires-clause-next
@@ -11,4 +10,4 @@ make_event-requires-clause-next g c =
 
 pub make_event-requires-clause-entry : goal.make_event-requires-clause-entry
 make_event-requires-clause-entry g c =
-    IsEntry-event c.args.script.now c.args.core.now.state (c.args.first + c.args.so_far.count) c.in-Some.e c.requires.script c.in-Some.ensures.within
+    c.in-Some.ensures.told c.args.script.now (c.args.first + c.args.so_far.count) c.requires.script (omega (arith, c.requires.number))

@@ -4,7 +4,7 @@ use Rattle.rt_base.specs.Outside.{Writes}
 use Rattle.rt_base.proofs.Outside.{Writes-then, Writes-stopped}
 use Rattle.rt_model.specs.Order.{replayed}
 use Rattle.rt_core.specs.Made.{Made}
-use Rattle.rt_core.specs.Text.{header, lines_of}
+use Rattle.rt_events.specs.Journal.{header, lines_of}
 use Rattle.rt_top.proofs.Journal.{budget_le, front_of, back_of, journal_parts, front_lines, back_lines}
 use Rattle.rt_top.proofs.replaying.print_journal.Goals as goal
 

@@ -5,7 +5,7 @@ use Rattle.rt_base.proofs.Outside.{Writes-then, Writes-stopped, Writes-as_err, W
 use Rattle.rt_model.specs.Run.{ended_of}
 use Rattle.rt_model.specs.Order.{replayed}
 use Rattle.rt_core.specs.Report.{report_of}
-use Rattle.rt_core.specs.Text.{end_line}
+use Rattle.rt_events.specs.Journal.{end_line}
 use Rattle.rt_top.proofs.Journal.{text_parts, ended_after}
 use Rattle.rt_top.proofs.replaying.print_replay.Goals as goal
 

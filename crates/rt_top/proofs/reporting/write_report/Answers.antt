@@ -1,5 +1,5 @@
 use Rattle.std.proofs.Common.{◌++◌, ◌∙◌, ap, refl}
-use Rattle.rt_core.specs.Text.{end_line}
+use Rattle.rt_events.specs.Journal.{end_line}
 use Rattle.rt_top.proofs.Printed.{Prints-in_front, Writes-printed_err, Writes-handed}
 use Rattle.rt_top.proofs.reporting.write_report.Goals as goal
 

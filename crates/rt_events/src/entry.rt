@@ -1,5 +1,5 @@
 ghost use Rattle.std.specs.Prelude.{◌≡◌};
-ghost use Rattle.rt_core.specs.Line.{entry, told_path};
+ghost use Rattle.rt_events.specs.Entry.{entry, told_path};
 
 use rt_base::{LockId, Path, Prio, Reply, TaskId};
 use rt_model::{Event, EventKind};

@@ -1,20 +1,27 @@
 ghost use Rattle.std.specs.Prelude.{◌≡◌, ◌+◌, ◌<◌, ◌≤◌, ◌∷◌, ◌++◌, length, vec_len, Option, IfSome};
 ghost use Rattle.std.specs.Vec.{vec_capacity};
-ghost use Rattle.rt_core.specs.Words.{kind_word, reply_word, state_word, end_word, bit_word, task_word, cell_word, lock_word};
+ghost use Rattle.rt_events.specs.Words.{wake_word, kind_word, reply_word, state_word, state_numbered, end_word, task_word, task_or_dash, cell_word, lock_word};
 ghost use Rattle.rt_base.specs.Script.{lock_line};
-ghost use Rattle.rt_core.specs.Line.{task_or_dash};
 
-use crate::append::{append, push_byte, push_digits, push_word};
+use crate::appending::{push_byte, push_small, push_word};
 use rt_base::{Cpu, Ended, LockId, Reply, TaskId, TaskState};
 use rt_model::EventKind;
 use rt_script::Script;
 
-// The most bytes of a word and the space before it.
-pub(crate) const WORD_ROOM: usize = 48;
+/// The most bytes of a word and the space before it.
+pub const WORD_ROOM: usize = 48;
 
-// The word for a kind of event.
-pub(crate) fn kind_text(kind: EventKind) -> &'static str
-    ensures word { result.now ≡ kind_word kind }
+// The word for a wakeup, which is a signal's where it carries 1.
+fn wake_text(value: u8) -> &'static str
+    ensures word { result.now ≡ wake_word value }
+    ensures short { length result.now ≤ 16 }
+{
+    if value == 1 { "signal" } else { "wake" }
+}
+
+// The word for a kind of event that carries this number.
+pub(crate) fn kind_text(kind: EventKind, value: u8) -> &'static str
+    ensures word { result.now ≡ kind_word kind value }
     ensures short { length result.now ≤ 16 }
 {
     match kind {
@@ -40,7 +47,7 @@ pub(crate) fn kind_text(kind: EventKind) -> &'static str
         EventKind::Busy => "busy",
         EventKind::State => "state",
         EventKind::Sched => "sched",
-        EventKind::Wake => "wake",
+        EventKind::Wake => wake_text(value),
         EventKind::SetPrio => "setprio",
         EventKind::Own => "own",
     }
@@ -65,16 +72,14 @@ pub(crate) fn reply_text(reply: Reply) -> &'static str
     }
 }
 
-// The letter for a state.
-pub(crate) fn state_text(state: TaskState) -> &'static str
-    ensures word { result.now ≡ state_word state }
-    ensures short { length result.now ≤ 16 }
+// The state of a number.
+pub(crate) fn state_numbered(value: u8) -> TaskState
+    ensures { result ≡ state_numbered value }
 {
-    match state {
-        TaskState::Running => "R",
-        TaskState::Interruptible => "S",
-        TaskState::Uninterruptible => "D",
-        TaskState::LockWait => "L",
+    match value {
+        0 => TaskState::Running,
+        1 => TaskState::Interruptible,
+        _ => TaskState::Uninterruptible,
     }
 }
 
@@ -90,16 +95,8 @@ pub(crate) fn end_text(ended: Ended) -> &'static str
     }
 }
 
-// A bit as a digit.
-pub(crate) fn bit_text(bit: bool) -> &'static str
-    ensures word { result.now ≡ bit_word bit }
-    ensures short { length result.now ≤ 16 }
-{
-    if bit { "1" } else { "0" }
-}
-
 // The name of a task, which has at most 16 bytes.
-pub(crate) fn task_text(script: &Script, t: TaskId) -> &str
+fn task_text(script: &Script, t: TaskId) -> &str
     requires { t.0 < length script.now.tasks }
     ensures word { result.now ≡ task_word script.now t }
     ensures short { length result.now ≤ 16 }
@@ -107,10 +104,10 @@ pub(crate) fn task_text(script: &Script, t: TaskId) -> &str
     script.task_name(t)
 }
 
-// Appends a space and the name of a task.
-pub(crate) fn push_task(script: &Script, t: TaskId, out: &mut Vec<u8>)
+/// Appends a space and the name of a task.
+pub fn push_task(script: &Script, t: TaskId, out: &mut Vec<u8>)
     requires task { t.0 < length script.now.tasks }
-    requires room { vec_len out.old + WORD_ROOM ≤ vec_capacity out.old }
+    requires room { vec_len out.old + 17 ≤ vec_capacity out.old }
     ensures text { out.new.items ≡ out.old.items ++ 32 ∷ task_word script.now t }
     ensures grows { vec_len out.new ≤ vec_len out.old + 17 }
     ensures capacity { vec_capacity out.old ≤ vec_capacity out.new }
@@ -118,12 +115,12 @@ pub(crate) fn push_task(script: &Script, t: TaskId, out: &mut Vec<u8>)
     push_word(out, task_text(script, t));
 }
 
-// Appends a space and the name of a task, or a dash where there is none.
-pub(crate) fn push_task_or_dash(script: &Script, t: Option<TaskId>, out: &mut Vec<u8>)
+/// Appends a space and the name of a task, or a dash where there is none.
+pub fn push_task_or_dash(script: &Script, t: Option<TaskId>, out: &mut Vec<u8>)
     requires task { IfSome t (λ t. t.0 < length script.now.tasks) }
-    requires room { vec_len out.old + WORD_ROOM ≤ vec_capacity out.old }
+    requires room { vec_len out.old + 17 ≤ vec_capacity out.old }
     ensures text { out.new.items ≡ out.old.items ++ 32 ∷ task_or_dash script.now t }
-    ensures grows { vec_len out.new ≤ vec_len out.old + WORD_ROOM }
+    ensures grows { vec_len out.new ≤ vec_len out.old + 17 }
     ensures capacity { vec_capacity out.old ≤ vec_capacity out.new }
 {
     match t {
@@ -143,23 +140,23 @@ fn lock_text(script: &Script, l: LockId) -> &str
 
 // Appends the processor of a local lock's cell, and nothing for another lock.
 fn push_cell(cell: Option<Cpu>, out: &mut Vec<u8>)
-    requires room { vec_len out.old + 21 ≤ vec_capacity out.old }
+    requires room { vec_len out.old + 4 ≤ vec_capacity out.old }
     ensures text { out.new.items ≡ out.old.items ++ cell_word cell }
-    ensures grows { vec_len out.new ≤ vec_len out.old + 21 }
+    ensures grows { vec_len out.new ≤ vec_len out.old + 4 }
     ensures capacity { vec_capacity out.old ≤ vec_capacity out.new }
 {
     if let Some(cpu) = cell {
         push_byte(out, b'.');
-        push_digits(out, cpu.0 as u64);
+        push_small(out, cpu.0);
     }
 }
 
-// Appends a space and what a lock is told by.
-pub(crate) fn push_lock(script: &Script, l: LockId, out: &mut Vec<u8>)
+/// Appends a space and what a lock is told by.
+pub fn push_lock(script: &Script, l: LockId, out: &mut Vec<u8>)
     requires lock { l.0 < length script.now.locks }
-    requires room { vec_len out.old + WORD_ROOM ≤ vec_capacity out.old }
+    requires room { vec_len out.old + 21 ≤ vec_capacity out.old }
     ensures text { out.new.items ≡ out.old.items ++ 32 ∷ lock_word script.now l }
-    ensures grows { vec_len out.new ≤ vec_len out.old + WORD_ROOM }
+    ensures grows { vec_len out.new ≤ vec_len out.old + 21 }
     ensures capacity { vec_capacity out.old ≤ vec_capacity out.new }
 {
     push_word(out, lock_text(script, l));

@@ -1,0 +1,5 @@
+use Rattle.rt_events.proofs.Named.{named}
+use Rattle.rt_events.proofs.line.write_line.Goals as goal
+
+pub push_parts-requires-clause-named : goal.push_parts-requires-clause-named
+push_parts-requires-clause-named c = named c.args.script.now c.args.n.now c.requires.entry

@@ -1,0 +1,12 @@
+use Rattle.std.proofs.Common.{◌≡◌, ◌+◌, ◌*◌, ◌≤◌, ◌++◌, map, take, vec_len}
+use Rattle.std.specs.Vec.{vec_capacity}
+use Rattle.rt_events.specs.Words.{spaced}
+use Rattle.rt_events.specs.Line.{link_word}
+use Rattle.rt_events.proofs.operands.push_path.Given as goal
+
+abbrev pub invariant-loop-i : goal.invariant-loop-i
+invariant-loop-i l = record {
+  text : l.out.items ≡ l.initial.out.items ++ spaced (map (link_word l.script) (take l.i l.path));
+  grows : vec_len l.out ≤ vec_len l.initial.out + 38 * l.i;
+  capacity : vec_capacity l.initial.out ≤ vec_capacity l.out;
+}

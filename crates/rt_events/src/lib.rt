@@ -1,0 +1,22 @@
+//! What is told of events: their entries and lines in a journal, and what they touch.
+#![tactic(auto)]
+
+mod appending;
+mod entry;
+mod footprint;
+mod journal;
+mod line;
+mod operands;
+#[cfg(test)]
+mod tests;
+mod well_formed;
+mod words;
+
+pub use appending::{append, push_byte, push_digits, push_number, push_word};
+pub use entry::{Entry, entry_of};
+pub use footprint::{disjoint, touches};
+pub use journal::{write_end_line, write_header};
+pub use line::write_line;
+pub use rt_model::{Event, EventKind, Obj};
+pub use well_formed::is_well_formed;
+pub use words::{WORD_ROOM, push_lock, push_task, push_task_or_dash};

@@ -5,4 +5,5 @@ pub mod Script
 pub mod Outside
 pub mod Reading
 pub mod Kept
+pub mod Failing
 pub mod Stream

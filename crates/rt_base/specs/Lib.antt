@@ -7,4 +7,5 @@ pub mod Text
 pub mod Outside
 pub mod Reading
 pub mod Kept
+pub mod Failing
 pub mod Stream

@@ -4,9 +4,12 @@
 
 mod call;
 mod ended;
+mod failing;
 mod fault;
 mod id;
 mod kind;
+mod mem_sink;
+mod mem_source;
 #[cfg(test)]
 mod outside_tests;
 mod path;
@@ -25,6 +28,8 @@ pub use ended::Ended;
 pub use fault::{Failed, NoMemory};
 pub use id::{Cpu, LockId, TaskId};
 pub use kind::Kind;
+pub use mem_sink::MemSink;
+pub use mem_source::MemSource;
 pub use path::Path;
 pub use prio::Prio;
 pub use reading::{Taken, read_whole};

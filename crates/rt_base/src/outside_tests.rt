@@ -1,8 +1,8 @@
 ghost use Rattle.std.specs.Prelude.{None};
 
 use crate::{
-    AlwaysGo, Failed, Gate, NoMemory, PlainSink, PlainSource, Sink, Source, StdinSource,
-    StdoutSink, Taken, Turnstile, read_whole, write_whole,
+    AlwaysGo, Failed, Gate, MemSink, MemSource, NoMemory, PlainSink, PlainSource, Sink, Source,
+    StdinSource, StdoutSink, Taken, Turnstile, read_whole, write_whole,
 };
 use std::alloc::Global;
 use std::io;
@@ -199,6 +199,39 @@ fn a_plain_sink_keeps_what_there_is_room_for(rt: HostRuntime) -> Result<(), Fail
         let mut sink = PlainSink::with_room(alloc, room)?;
         write_whole(&mut sink, b"lock")?;
         write_whole(&mut sink, b"types")?;
+        assert_eq!(rt; sink.bytes(), wanted.as_bytes(), "at {room}");
+    }
+    Ok(())
+}
+
+#[test]
+fn reads_whose_numbers_are_listed_fail(rt: HostRuntime) -> Result<(), Fail> {
+    let alloc = rt.alloc();
+    let fail = [4, 1, 9, 1].to_vec(alloc)?;
+    let mut source = MemSource::new(b"stripes".to_vec(alloc)?, fail);
+    for wanted in [Some("str"), None, Some("ipe"), Some("s"), None, Some("")] {
+        let mut buf = [0; 3];
+        let taken = source.read(&mut buf).ok();
+        assert_eq!(rt; taken, wanted.map(|text| text.len()));
+        assert_eq!(rt; &buf[..taken.unwrap_or(0)], wanted.unwrap_or("").as_bytes());
+    }
+    Ok(())
+}
+
+#[test]
+fn writes_whose_numbers_are_listed_fail(rt: HostRuntime) -> Result<(), Fail> {
+    let alloc = rt.alloc();
+    for (room, wanted) in [(0, ""), (6, "lockty"), (9, "locktypes"), (20, "locktypes")] {
+        let mut sink = MemSink::with_room(alloc, room, [0, 2].to_vec(alloc)?)?;
+        for (piece, taken) in [
+            ("rt", Err(Failed)),
+            ("lock", Ok(4)),
+            ("s", Err(Failed)),
+            ("types", Ok(5)),
+            ("", Ok(0)),
+        ] {
+            assert_eq!(rt; sink.write(piece.as_bytes()), taken, "at {piece}");
+        }
         assert_eq!(rt; sink.bytes(), wanted.as_bytes(), "at {room}");
     }
     Ok(())

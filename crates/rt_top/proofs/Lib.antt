@@ -3,3 +3,8 @@ pub mod Going
 pub mod Loops
 pub mod Reported
 pub mod Journal
+pub mod Spelled
+pub mod Asked
+pub mod Cli
+pub mod Turns
+pub mod Told

@@ -1,4 +1,7 @@
 pub mod Status
+pub mod Words
+pub mod Message
+pub mod Turns
 pub mod Printing
 pub mod Playing
 pub mod Answer

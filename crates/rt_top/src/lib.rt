@@ -1,6 +1,10 @@
 //! The top call: from the words and the bytes of a lock script to the bytes of a journal and a status.
 #![tactic(auto)]
 
+#[cfg(test)]
+mod fault_tests;
+mod message;
+mod options;
 mod order;
 mod playing;
 mod printing;
@@ -11,6 +15,9 @@ mod status;
 #[cfg(test)]
 mod tests;
 mod top;
+mod words;
+#[cfg(test)]
+mod words_tests;
 
 pub use status::Status;
 pub use top::rtlab;

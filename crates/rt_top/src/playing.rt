@@ -1,5 +1,5 @@
 // A run made and told: the picks, and the stated choice.
-ghost use Rattle.std.specs.Prelude.{◌≡◌, ◌+◌, ◌^◌, ◌<◌, ◌≤◌, [], length, vec_len, vec_capacity, IfOk, IfSome, OnOk, OnErr, Some, None};
+ghost use Rattle.std.specs.Prelude.{◌≡◌, ◌↔◌, ◌+◌, ◌^◌, ◌<◌, ◌≤◌, [], length, vec_len, vec_capacity, IfOk, IfSome, OnOk, OnErr, Some, None};
 ghost use Rattle.rt_base.specs.Outside.{Rises, Writes};
 ghost use Rattle.rt_model.specs.Laws.{IsOf};
 ghost use Rattle.rt_model.specs.NextEvent.{next_event};
@@ -12,6 +12,7 @@ ghost use Rattle.rt_events.specs.WellFormed.{IsWellFormed};
 ghost use Rattle.rt_events.specs.Journal.{lines_of};
 ghost use Rattle.rt_top.specs.Printing.{Prints};
 ghost use Rattle.rt_top.specs.Playing.{IsPartMade, Moves, Stops};
+ghost use Rattle.rt_top.specs.Turns.{IsCutShort};
 
 use crate::order::pick_next;
 use crate::printing::{LINE_ROOM, hand_over, make_room};
@@ -207,6 +208,7 @@ pub fn finish<K: Sink>(
     ensures state { OnOk result (core.new.state ≡ (chosen turns core.old.state last).state) }
     ensures made { OnOk result (core.new.made ≡ core.old.made + length (chosen turns core.old.state last).events) }
     ensures ended { IfOk result (λ ended. ended ≡ ended_of core.new.state) }
+    ensures limit { IfOk result (λ ended. (ended ≡ Ended.Limit) ↔ IsCutShort turns (chosen turns core.old.state last)) }
     ensures part { OnErr result (IsPartMade core.old core.new (chosen turns core.old.state last).events) }
     ensures script { IsOf script.now core.new.state }
     ensures buf { OnOk result (buf.new.items ≡ []) }

@@ -1,13 +1,14 @@
 // A script replayed: from its bytes to the text of its run.
-ghost use Rattle.std.specs.Prelude.{◌≡◌, ◌+◌, ◌<◌, ◌≤◌, [], ◌++◌, length, vec_capacity, IfOk, OnOk, None};
+ghost use Rattle.std.specs.Prelude.{◌≡◌, ◌↔◌, ◌+◌, ◌<◌, ◌≤◌, [], ◌++◌, length, vec_capacity, IfOk, OnOk, None};
 ghost use Rattle.rt_base.specs.Outside.{Writes};
-ghost use Rattle.rt_base.specs.Script.{budget_of, IsScript};
+ghost use Rattle.rt_base.specs.Script.{IsScript};
 ghost use Rattle.rt_model.specs.Laws.{IsOf};
 ghost use Rattle.rt_model.specs.State.{start};
 ghost use Rattle.rt_model.specs.Run.{after, ended_of};
 ghost use Rattle.rt_model.specs.Order.{replayed};
 ghost use Rattle.rt_events.specs.Journal.{header, lines_of};
-ghost use Rattle.rt_core.specs.Text.{text_of};
+ghost use Rattle.rt_core.specs.Text.{replay_text};
+ghost use Rattle.rt_top.specs.Turns.{IsCutShort, behind_picks};
 
 use crate::playing::{finish, run_picks};
 use crate::printing::{LINE_ROOM, hand_over};
@@ -29,48 +30,55 @@ fn print_header<K: Sink>(buf: &mut Vec<u8>, out: &mut K) -> Result<(), Failed>
     hand_over(buf, out)
 }
 
-// Writes the journal of a script's replay: the picks, then at most the budget's events in the stated order.
+// Writes the journal of a script's replay: the picks, then at most so many events in the stated order.
 fn print_journal<K: Sink>(
     core: &mut Core,
     script: &Script,
+    turns: u64,
     buf: &mut Vec<u8>,
     out: &mut K,
 ) -> Result<Ended, Failed>
     requires start { core.old ≡ record { state = start script.now; made = 0 } }
     requires valid { IsScript script.now }
+    requires turns { turns ≤ 4294967295 }
     requires script { IsOf script.now core.old.state }
     requires empty { buf.old.items ≡ [] }
     requires room { LINE_ROOM ≤ vec_capacity buf.old }
     ensures writes { Writes result (K.held out.old) (K.held out.new) (K.faults out.old) (K.faults out.new)
-        (header ++ lines_of script.now 1 (replayed script.now (budget_of script.now)).events) }
-    ensures state { OnOk result (core.new.state ≡ (replayed script.now (budget_of script.now)).state) }
+        (header ++ lines_of script.now 1 (replayed script.now turns).events) }
+    ensures state { OnOk result (core.new.state ≡ (replayed script.now turns).state) }
     ensures ended { IfOk result (λ ended. ended ≡ ended_of core.new.state) }
+    ensures limit { IfOk result (λ ended. (ended ≡ Ended.Limit) ↔ IsCutShort turns (behind_picks script.now turns)) }
     ensures script { IsOf script.now core.new.state }
     ensures buf { OnOk result (buf.new.items ≡ []) }
     ensures capacity { vec_capacity buf.old ≤ vec_capacity buf.new }
 {
     print_header(buf, out)?;
     let (count, last) = run_picks(core, script, buf, out)?;
-    finish(core, script, last, script.budget(), count + 1, buf, out)
+    finish(core, script, last, turns, count + 1, buf, out)
 }
 
-/// Writes the text of a script's replay, and answers how it ended.
+/// Writes the text of a script's replay with at most so many events behind the picks, and answers how it
+/// ended.
 pub fn print_replay<K: Sink>(
     core: &mut Core,
     script: &Script,
+    turns: u64,
     buf: &mut Vec<u8>,
     out: &mut K,
 ) -> Result<Ended, Failed>
     requires start { core.old ≡ record { state = start script.now; made = 0 } }
     requires valid { IsScript script.now }
+    requires turns { turns ≤ 4294967295 }
     requires script { IsOf script.now core.old.state }
     requires empty { buf.old.items ≡ [] }
     requires room { LINE_ROOM ≤ vec_capacity buf.old }
     ensures writes { Writes result (K.held out.old) (K.held out.new) (K.faults out.old) (K.faults out.new)
-        (text_of script.now (replayed script.now (budget_of script.now)).events) }
-    ensures ended { IfOk result (λ ended. ended_of (after (start script.now) (replayed script.now (budget_of script.now)).events) ≡ ended) }
+        (replay_text script.now turns) }
+    ensures ended { IfOk result (λ ended. ended_of (after (start script.now) (replayed script.now turns).events) ≡ ended) }
+    ensures limit { IfOk result (λ ended. (ended ≡ Ended.Limit) ↔ IsCutShort turns (behind_picks script.now turns)) }
 {
-    let ended = print_journal(core, script, buf, out)?;
+    let ended = print_journal(core, script, turns, buf, out)?;
     write_report(core, script, ended, buf, out)?;
     Ok(ended)
 }

@@ -10,11 +10,11 @@ pub enum Status {
     Done,
     /// The words are none that the program takes.
     Usage,
-    /// The input is no script.
+    /// The input is no script, or one that isn't played yet.
     BadScript,
     /// No task has a next event, and some task isn't at the end of its calls.
     Stuck,
-    /// The budget was used up, and some task has a next event.
+    /// So many events were made behind the picks as may be, and some task has a next event.
     Limit,
     /// The source failed.
     ReadFault,

@@ -2,7 +2,7 @@
 ghost use Rattle.std.specs.Prelude.{None};
 
 use super::rtlab;
-use rt_base::{AlwaysGo, Failed, PlainSink, PlainSource, Sink, Source};
+use rt_base::{AlwaysGo, Failed, PlainSink, PlainSource, Sink};
 use std::alloc::{AllocError, Global};
 use std::process::Abort;
 use std::test::Fail;
@@ -10,76 +10,8 @@ use std::thread::Threads;
 
 const HEADER: &[u8] = b"rtscript 1\n";
 
-/// A source that fails at each read.
-#[derive(Drop)]
-struct BrokenSource {
-    faults: u64,
-}
-
-impl Source for BrokenSource {
-    ghost left = { λ _. None };
-
-    ghost faults = { λ source. source.faults };
-
-    fn read(&mut self, _buf: &mut [u8]) -> Result<usize, Failed> {
-        self.faults = self.faults.saturating_add(1);
-        Err(Failed)
-    }
-}
-
-/// A source that never ends, whose bytes are those of the buffer.
-#[derive(Drop)]
-struct EndlessSource;
-
-impl Source for EndlessSource {
-    ghost left = { λ _. None };
-
-    ghost faults = { λ _. 0 };
-
-    fn read(&mut self, buf: &mut [u8]) -> Result<usize, Failed> {
-        Ok(buf.len())
-    }
-}
-
-/// A sink that fails at each write.
-#[derive(Drop)]
-struct BrokenSink {
-    faults: u64,
-}
-
-impl Sink for BrokenSink {
-    ghost held = { λ _. None };
-
-    ghost faults = { λ sink. sink.faults };
-
-    fn write(&mut self, _piece: &[u8]) -> Result<usize, Failed> {
-        self.faults = self.faults.saturating_add(1);
-        Err(Failed)
-    }
-}
-
-/// A sink that takes some bytes and then fails at each write.
-#[derive(Drop)]
-struct FullSink {
-    room: usize,
-    faults: u64,
-}
-
-impl Sink for FullSink {
-    ghost held = { λ _. None };
-
-    ghost faults = { λ sink. sink.faults };
-
-    fn write(&mut self, piece: &[u8]) -> Result<usize, Failed> {
-        let taken = self.room.min(piece.len());
-        if taken == 0 {
-            self.faults = self.faults.saturating_add(1);
-            return Err(Failed);
-        }
-        self.room -= taken;
-        Ok(taken)
-    }
-}
+/// What is written for a script that isn't played yet.
+const NOT_PLAYED: &[u8] = b"bad script: line 0, fault 8\n";
 
 /// A sink that takes every piece and counts them.
 #[derive(Drop)]
@@ -99,7 +31,7 @@ impl Sink for CountingSink {
 }
 
 /// The words of a command.
-fn words(alloc: Global, texts: &[&str]) -> Result<Vec<String>, AllocError> {
+pub(crate) fn words(alloc: Global, texts: &[&str]) -> Result<Vec<String>, AllocError> {
     let mut words = Vec::new(alloc);
     for text in texts {
         words.push(String::from_str(alloc, text)?)?;
@@ -108,15 +40,32 @@ fn words(alloc: Global, texts: &[&str]) -> Result<Vec<String>, AllocError> {
 }
 
 /// A text as a source.
-fn source(alloc: Global, text: &[u8]) -> Result<PlainSource, AllocError> {
+pub(crate) fn source(alloc: Global, text: &[u8]) -> Result<PlainSource, AllocError> {
     Ok(PlainSource::new(text.to_vec(alloc)?))
 }
 
-const ONE_MUTEX: &[u8] =
+pub(crate) const ONE_MUTEX: &[u8] =
     b"rtscript 1\ntask a 50 0\nlock m mutex\ncall a lock m\ncall a unlock m\ngo\n";
 
+pub(crate) const INVERSION: &[u8] = b"rtscript 1\ntask a 90 0\ntask c 10 0\nlock m mutex\n\
+      call a lock m\ncall a unlock m\n\
+      call c lock m\ncall c unlock m\n\
+      pick a\npick c\npick c\ngo\n";
+
+pub(crate) const INVERSION_JOURNAL: &[u8] = b"rtjournal 1\n\
+      1 a fast m -> got\n\
+      2 c mark m\n\
+      3 c wait m a=10\n\
+      4 a give m c a=90 -> done\n\
+      5 c take m -> got\n\
+      6 c free m -> done\n\
+      end done\n\
+      task a 90 90 R R 2/2 end\n\
+      task c 10 10 R R 2/2 end\n\
+      lock m - 0\n";
+
 /// Replays each script, and compares what is written and the status.
-fn compare_replays<R: Abort + Threads + Sync>(
+pub(crate) fn compare_replays<R: Abort + Threads + Sync>(
     rt: &R,
     alloc: Global,
     replays: &[(&[u8], &[u8], u8)],
@@ -147,7 +96,7 @@ fn rows_of_one_task(rt: HostRuntime) -> Result<(), Fail> {
             0,
         ),
         // a header alone
-        (HEADER, b"", 3),
+        (HEADER, b"bad script: line 2, fault 10\n", 3),
         // a pick of a task at its end is passed over
         (
             b"rtscript 1\ntask a 50 0\nlock m mutex\ncall a lock m\npick a\npick a\ngo\n",
@@ -175,24 +124,7 @@ fn rows_of_two_tasks(rt: HostRuntime) -> Result<(), Fail> {
     let alloc = rt.alloc();
     let rows: [(&[u8], &[u8], u8); 2] = [
         // inversion
-        (
-            b"rtscript 1\ntask a 90 0\ntask c 10 0\nlock m mutex\n\
-              call a lock m\ncall a unlock m\n\
-              call c lock m\ncall c unlock m\n\
-              pick a\npick c\npick c\ngo\n",
-            b"rtjournal 1\n\
-              1 a fast m -> got\n\
-              2 c mark m\n\
-              3 c wait m a=10\n\
-              4 a give m c a=90 -> done\n\
-              5 c take m -> got\n\
-              6 c free m -> done\n\
-              end done\n\
-              task a 90 90 R R 2/2 end\n\
-              task c 10 10 R R 2/2 end\n\
-              lock m - 0\n",
-            0,
-        ),
+        (INVERSION, INVERSION_JOURNAL, 0),
         // bit_without_waiters
         (
             b"rtscript 1\ntask a 50 0\ntask c 50 0\nlock m mutex\n\
@@ -498,52 +430,28 @@ fn which_scripts_are_played(rt: HostRuntime) -> Result<(), Fail> {
             0,
         ),
         // a lock of another kind, two mutexes, other calls of a mutex, and a call on no lock
-        (b"rtscript 1\nlock s spin\ngo\n", b"", 3),
-        (b"rtscript 1\nlock m mutex\nlock n mutex\ngo\n", b"", 3),
+        (b"rtscript 1\nlock s spin\ngo\n", NOT_PLAYED, 3),
         (
-            b"rtscript 1\ntask a 5 0\nlock m mutex\ncall a trylock m\ngo\n",
-            b"",
+            b"rtscript 1\nlock m mutex\nlock n mutex\ngo\n",
+            NOT_PLAYED,
             3,
         ),
-        (b"rtscript 1\ntask a 5 0\ncall a schedule\ngo\n", b"", 3),
+        (
+            b"rtscript 1\ntask a 5 0\nlock m mutex\ncall a trylock m\ngo\n",
+            NOT_PLAYED,
+            3,
+        ),
+        (
+            b"rtscript 1\ntask a 5 0\ncall a schedule\ngo\n",
+            NOT_PLAYED,
+            3,
+        ),
     ];
     compare_replays(&rt, rt.alloc(), &rows)
 }
 
-#[test]
-fn refusals_and_faults(rt: HostRuntime) -> Result<(), Fail> {
-    let alloc = rt.alloc();
-    let replay = words(alloc, &["replay"])?;
-    let mut out = PlainSink::with_room(alloc, 1000).ok().ok_or("no memory")?;
-    for other in [
-        words(alloc, &[])?,
-        words(alloc, &["run"])?,
-        words(alloc, &["replay", "replay"])?,
-    ] {
-        let mut src = source(alloc, ONE_MUTEX)?;
-        assert_eq!(rt; rtlab(&rt, alloc, &other, &mut src, &mut out, &AlwaysGo), 2);
-    }
-    assert_eq!(rt;
-        rtlab(&rt, alloc, &replay, &mut EndlessSource, &mut out, &AlwaysGo),
-        9
-    );
-    let mut broken = BrokenSource { faults: 0 };
-    assert_eq!(rt;
-        rtlab(&rt, alloc, &replay, &mut broken, &mut out, &AlwaysGo),
-        6
-    );
-    assert_eq!(rt; out.bytes().len(), 0);
-    let mut src = source(alloc, ONE_MUTEX)?;
-    let mut broken = BrokenSink { faults: 0 };
-    assert_eq!(rt;
-        rtlab(&rt, alloc, &replay, &mut src, &mut broken, &AlwaysGo),
-        7
-    );
-    Ok(())
-}
-
 /// A script whose one task locks and unlocks a mutex so many times.
-fn long_script(alloc: Global, times: u32) -> Result<Vec<u8>, AllocError> {
+pub(crate) fn long_script(alloc: Global, times: u32) -> Result<Vec<u8>, AllocError> {
     let mut text = b"rtscript 1\ntask a 50 0\nlock m mutex\n".to_vec(alloc)?;
     for _ in 0..times {
         text.extend_from_slice(b"call a lock m\ncall a unlock m\n")?;

@@ -1,15 +1,20 @@
-ghost use Rattle.std.specs.Prelude.{◌≡◌, ◌≢◌, ◌↔◌, ◌<◌, ◌≤◌, ℕ, List, map, length, string_bytes, IsTrue};
+ghost use Rattle.std.specs.Prelude.{◌≡◌, ◌≢◌, ◌↔◌, ◌≤◌, ℕ, List, map, length, string_bytes, Result, Ok, Err};
 ghost use Rattle.rt_base.specs.Outside.{Takes};
 ghost use Rattle.rt_base.specs.Script.{HasOneMutex, IsScript};
-ghost use Rattle.rt_top.specs.Answer.{IsAccepted, Answers, AnswersInput, Replays, IsSilent};
+ghost use Rattle.rt_script.specs.Grammar.{FaultAt};
+ghost use Rattle.rt_top.specs.Words.{IsAccepted, asked};
+ghost use Rattle.rt_top.specs.Answer.{Answers, AnswersReplay, AnswersInput, Replays, Refuses, turns_of};
 ghost use Rattle.rt_top.specs.Status.{number_of};
 ghost use Rattle.rt_top.specs.declared.status.Status.{Status};
 
+use crate::message::{bad_script, tell, tell_read_fault, tell_too_long, tell_usage};
+use crate::options::{Options, options_in};
 use crate::replaying::print_replay;
 use crate::status::Status;
+use crate::words::is_accepted;
 use rt_base::{Failed, NoMemory, Sink, Source, Taken, Turnstile, read_whole};
 use rt_core::Core;
-use rt_script::{Script, ScriptFault, read_script};
+use rt_script::{Script, ScriptFault, Why, read_script};
 use std::alloc::Global;
 use std::thread::Threads;
 
@@ -21,7 +26,8 @@ const BUFFER: usize = 64 * 1024;
 
 /// The whole program but for its standard streams: takes the words after the program's name, reads the
 /// source, writes the sink, and answers the exit status. The one command is `replay`: it reads a script,
-/// makes the picks and then at most the budget's events in the stated order, and writes journal and report.
+/// makes the picks and then events in the stated order, at most as many as `--turns` says or else the
+/// budget, and writes journal and report. Where nothing is played, it writes one line that says why.
 pub fn rtlab<R: Threads + Sync, S: Source, K: Sink, T: Turnstile + Sync>(
     rt: &R,
     alloc: Global,
@@ -34,89 +40,114 @@ pub fn rtlab<R: Threads + Sync, S: Source, K: Sink, T: Turnstile + Sync>(
     ensures usage { (result ≡ 2) ↔ (IsAccepted (map (λ word. string_bytes word) words.now) → ⊥) }
     ensures unread { result ≡ 2 → src.new ≡ src.old }
 
-    // Else one list of bytes stands for those that were read, and what the answer says is true of it.
-    ensures outcome { IsAccepted (map (λ word. string_bytes word) words.now) → (status : Status) × (bytes : List ℕ) × (result ≡ number_of status)
+    // One list of bytes stands for those that were read, and what the answer says is true of it.
+    ensures outcome { (status : Status) × (bytes : List ℕ) × (result ≡ number_of status)
         × Takes (S.left src.old) bytes (S.left src.new)
-        × Answers status bytes (record { left = S.left src.new; faults_before = S.faults src.old; faults_after = S.faults src.new })
+        × Answers (asked (map (λ word. string_bytes word) words.now)) status bytes (record { left = S.left src.new; faults_before = S.faults src.old; faults_after = S.faults src.new })
         (record { held_before = K.held out.old; held_after = K.held out.new; faults_before = K.faults out.old; faults_after = K.faults out.new }) }
 
-    // Nothing but a run's text is written.
-    ensures unwritten { result ≢ 0 → result ≢ 4 → result ≢ 5 → result ≢ 7 → out.new ≡ out.old }
+    // All memory is taken before the first byte is written.
+    ensures unwritten { result ≡ 8 → out.new ≡ out.old }
     ensures read_count { S.faults src.old ≤ S.faults src.new }
     ensures write_count { K.faults out.old ≤ K.faults out.new }
 {
     command(alloc, words, src, out).number()
 }
 
-// The words that are taken: the one word `replay`.
-fn is_accepted(words: &[String]) -> bool
-    ensures { IsTrue result ↔ IsAccepted (map (λ word. string_bytes word) words.now) }
-{
-    match words {
-        [word] => word.as_str() == "replay",
-        _ => false,
-    }
-}
-
 // The command that the words name.
 fn command<S: Source, K: Sink>(alloc: Global, words: &[String], src: &mut S, out: &mut K) -> Status
     ensures usage { (result ≡ Status.Usage) ↔ (IsAccepted (map (λ word. string_bytes word) words.now) → ⊥) }
     ensures unread { result ≡ Status.Usage → src.new ≡ src.old }
-    ensures outcome { IsAccepted (map (λ word. string_bytes word) words.now) → (bytes : List ℕ)
+    ensures outcome { (bytes : List ℕ)
         × Takes (S.left src.old) bytes (S.left src.new)
-        × Answers result bytes (record { left = S.left src.new; faults_before = S.faults src.old; faults_after = S.faults src.new })
+        × Answers (asked (map (λ word. string_bytes word) words.now)) result bytes (record { left = S.left src.new; faults_before = S.faults src.old; faults_after = S.faults src.new })
         (record { held_before = K.held out.old; held_after = K.held out.new; faults_before = K.faults out.old; faults_after = K.faults out.new }) }
-    ensures unwritten { IsSilent result → out.new ≡ out.old }
+    ensures unwritten { result ≡ Status.NoMemory → out.new ≡ out.old }
     ensures read_count { S.faults src.old ≤ S.faults src.new }
     ensures write_count { K.faults out.old ≤ K.faults out.new }
 {
     if !is_accepted(words) {
+        tell_usage(out);
         return Status::Usage;
     }
-    replay(alloc, src, out)
+    match options_in(alloc, words) {
+        Ok(options) => replay(alloc, options, src, out),
+        Err(NoMemory) => Status::NoMemory,
+    }
 }
 
 // Replays the script that the source holds.
-fn replay<S: Source, K: Sink>(alloc: Global, src: &mut S, out: &mut K) -> Status
+fn replay<S: Source, K: Sink>(alloc: Global, options: Options, src: &mut S, out: &mut K) -> Status
     ensures outcome { (bytes : List ℕ)
         × Takes (S.left src.old) bytes (S.left src.new)
-        × Answers result bytes (record { left = S.left src.new; faults_before = S.faults src.old; faults_after = S.faults src.new })
+        × AnswersReplay options result bytes (record { left = S.left src.new; faults_before = S.faults src.old; faults_after = S.faults src.new })
         (record { held_before = K.held out.old; held_after = K.held out.new; faults_before = K.faults out.old; faults_after = K.faults out.new }) }
-    ensures unwritten { IsSilent result → out.new ≡ out.old }
+    ensures unwritten { result ≡ Status.NoMemory → out.new ≡ out.old }
     ensures read_count { S.faults src.old ≤ S.faults src.new }
     ensures write_count { K.faults out.old ≤ K.faults out.new }
 {
     let mut bytes = Vec::new(alloc);
     match read_whole(alloc, src, MAX_BYTES, &mut bytes) {
-        Ok(Taken::Whole) => replay_input(alloc, &bytes, out),
-        Ok(Taken::Over) => Status::TooLong,
-        Ok(Taken::Fault) => Status::ReadFault,
+        Ok(Taken::Whole) => replay_input(alloc, options, &bytes, out),
+        Ok(Taken::Over) => {
+            tell_too_long(out);
+            Status::TooLong
+        }
+        Ok(Taken::Fault) => {
+            tell_read_fault(out);
+            Status::ReadFault
+        }
         Err(NoMemory) => Status::NoMemory,
     }
 }
 
 // Replays the script that these bytes are.
-fn replay_input<K: Sink>(alloc: Global, bytes: &[u8], out: &mut K) -> Status
+fn replay_input<K: Sink>(alloc: Global, options: Options, bytes: &[u8], out: &mut K) -> Status
     requires { length bytes.now ≤ 1048576 }
-    ensures outcome { AnswersInput result bytes.now (record { held_before = K.held out.old; held_after = K.held out.new; faults_before = K.faults out.old; faults_after = K.faults out.new }) }
+    ensures outcome { AnswersInput options result bytes.now (record { held_before = K.held out.old; held_after = K.held out.new; faults_before = K.faults out.old; faults_after = K.faults out.new }) }
     ensures read { (result ≢ Status.Usage) × (result ≢ Status.ReadFault) × (result ≢ Status.TooLong) }
-    ensures unwritten { IsSilent result → out.new ≡ out.old }
+    ensures unwritten { result ≡ Status.NoMemory → out.new ≡ out.old }
     ensures write_count { K.faults out.old ≤ K.faults out.new }
 {
     match read_script(alloc, bytes) {
-        Ok(script) if Core::can(&script) => replay_script(alloc, &script, out),
-        Ok(_) => Status::BadScript,
-        Err(ScriptFault::At { .. }) => Status::BadScript,
+        Ok(script) if Core::can(&script) => replay_script(alloc, options, &script, out),
+        Ok(_) => refuse(alloc, 0, Why::WrongKind, out),
+        Err(ScriptFault::At { line, why }) => refuse(alloc, line, why, out),
         Err(ScriptFault::Memory(_)) => Status::NoMemory,
     }
 }
 
+// Answers that the input is no script that is played, and writes the line that says why.
+fn refuse<K: Sink>(alloc: Global, line: u32, why: Why, out: &mut K) -> Status
+    ensures outcome { Refuses result (record { line = line; why = why }) (record { held_before = K.held out.old; held_after = K.held out.new; faults_before = K.faults out.old; faults_after = K.faults out.new }) }
+    ensures unwritten { result ≡ Status.NoMemory → out.new ≡ out.old }
+    ensures write_count { K.faults out.old ≤ K.faults out.new }
+{
+    let Ok(text) = bad_script(alloc, line, why) else {
+        return Status::NoMemory;
+    };
+    tell(text.as_bytes(), out);
+    Status::BadScript
+}
+
+// How many events are made behind the picks at most.
+fn turns(options: Options, script: &Script) -> u64
+    requires { IsScript script.now }
+    ensures value { result ≡ turns_of options script.now }
+    ensures few { result ≤ 4294967295 }
+{
+    match options.turns {
+        Some(turns) => turns as u64,
+        None => script.budget(),
+    }
+}
+
 // Replays a script. All memory is taken before the first byte is written.
-fn replay_script<K: Sink>(alloc: Global, script: &Script, out: &mut K) -> Status
+fn replay_script<K: Sink>(alloc: Global, options: Options, script: &Script, out: &mut K) -> Status
     requires valid { IsScript script.now }
     requires mutexes { HasOneMutex script.now }
-    ensures outcome { Replays result script.now (record { held_before = K.held out.old; held_after = K.held out.new; faults_before = K.faults out.old; faults_after = K.faults out.new }) }
-    ensures unwritten { IsSilent result → out.new ≡ out.old }
+    ensures outcome { Replays result script.now (turns_of options script.now) (record { held_before = K.held out.old; held_after = K.held out.new; faults_before = K.faults out.old; faults_after = K.faults out.new }) }
+    ensures unwritten { result ≡ Status.NoMemory → out.new ≡ out.old }
     ensures write_count { K.faults out.old ≤ K.faults out.new }
 {
     let Ok(mut core) = Core::new(alloc, script) else {
@@ -125,7 +156,8 @@ fn replay_script<K: Sink>(alloc: Global, script: &Script, out: &mut K) -> Status
     let Ok(mut buf) = Vec::with_capacity(alloc, BUFFER) else {
         return Status::NoMemory;
     };
-    match print_replay(&mut core, script, &mut buf, out) {
+    let turns = turns(options, script);
+    match print_replay(&mut core, script, turns, &mut buf, out) {
         Ok(ended) => Status::of_run(ended),
         Err(Failed) => Status::WriteFault,
     }

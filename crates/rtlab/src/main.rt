@@ -9,9 +9,6 @@ use std::{env, io};
 /// The status where the words can't be kept for want of memory.
 const NO_MEMORY: u8 = 8;
 
-/// The status of words that aren't text, none of which is taken.
-const USAGE: u8 = 2;
-
 // The words after the program's name.
 fn words(rt: &HostRuntime) -> io::Result<Vec<String>> {
     Ok(env::args(rt)?.skip(1).collect(rt.alloc())?)
@@ -21,7 +18,8 @@ fn main(rt: HostRuntime) -> ExitCode {
     let words = match words(&rt) {
         Ok(words) => words,
         Err(e) if e.kind() == io::ErrorKind::OutOfMemory => return ExitCode::from(NO_MEMORY),
-        Err(_) => return ExitCode::from(USAGE),
+        // A word that isn't text is none that is taken, and neither are no words at all.
+        Err(_) => Vec::new(rt.alloc()),
     };
     let mut src = StdinSource::new(rt.stdin());
     let mut out = StdoutSink::new(rt.stdout());

@@ -1,0 +1,130 @@
+-- What words ask for, by the forms that they can have.
+use Rattle.std.proofs.Common.{◌≡◌, ℕ, ◌<◌, ◌≤◌, Bool, true, false, ◌&&◌, not, List, [], ◌∷◌, length, get_or, Option, Some, None, Result, Ok, Err, refl, sym, ap, subst, ◌∙◌, arith, codes}
+use Rattle.std.specs.Prelude.{bytes_eq, is_some}
+use Rattle.std.specs.Str.Parse.{ParsesUnsigned}
+use Rattle.std.specs.Result.{result_ok}
+use Rattle.clap.specs.Words.{ReadsOne}
+use Rattle.std.proofs.lemmas.Slice.Eq.{bytes_eq-Decides}
+use Rattle.rt_script.specs.Words.{◌>>=◌, only_if, number_upto}
+use Rattle.rt_top.specs.declared.options.Options.{Options}
+use Rattle.rt_top.specs.Words.{IsTurns, asked, no_options, options_behind, with_option}
+use Rattle.rt_top.proofs.Spelled.{spells, some_of, first_of, no_zero, number_upto-parsed}
+
+if_passed : {A : Type 0} (b : Bool) (o : Option A) (a : A) → only_if b o ≡ Some a → (b ≡ true) × (o ≡ Some a)
+if_passed true o a e = (refl, e)
+if_passed false o a e = cc e
+
+pub both : (a b : Bool) → (a && b) ≡ true → (a ≡ true) × (b ≡ true)
+both true true e = (refl, refl)
+both true false e = cc e
+both false b e = cc e
+
+-- an option isn't given twice
+not_again : (n : ℕ) (name word : List ℕ) → with_option (record { turns = Some n }) name word ≡ None
+not_again n name word = twice (bytes_eq name (codes "--turns"))
+  where
+    twice : (b : Bool) → only_if {A = Options} (b && not true) (number_upto 4294967295 word >>= λ m. Some (record { turns = Some m })) ≡ None
+    twice true = refl
+    twice false = refl
+
+number_given : (o : Option ℕ) (given : Options) → (o >>= λ m. Some (record { turns = Some m })) ≡ Some given → (n : ℕ) × (o ≡ Some n) × (given ≡ record { turns = Some n })
+number_given None given e = cc e
+number_given (Some n) given e = (n, refl, cc e)
+
+-- an option that is taken is `--turns` and a number
+pub record HasTurns (name word : List ℕ) (options : Options) : Type 0 where
+  pub number : ℕ
+  pub named : name ≡ codes "--turns"
+  pub spelled : number_upto 4294967295 word ≡ Some number
+  pub given : options ≡ record { turns = Some number }
+
+has_turns : (name word : List ℕ) (options : Options) → with_option no_options name word ≡ Some options → HasTurns name word options
+has_turns name word options e =
+    let p = if_passed (bytes_eq name (codes "--turns") && true) (number_upto 4294967295 word >>= λ m. Some (record { turns = Some m })) options e in
+    let n = number_given (number_upto 4294967295 word) options p.1 in
+    record { number = n.0; named = (bytes_eq-Decides name (codes "--turns")).0 (both _ _ p.0).0; spelled = n.1; given = n.2 }
+
+-- nothing but one option is an option
+no_more : (n : ℕ) (words : List (List ℕ)) (options : Options) → options_behind (record { turns = Some n }) words ≡ Some options → (words ≡ []) × (options ≡ record { turns = Some n })
+no_more n [] options e = (refl, cc e)
+no_more n (name ∷ []) options e = cc e
+no_more n (name ∷ word ∷ words) options e = cc (e, ap (λ (o : Option Options). o >>= λ more. options_behind more words) (not_again n name word))
+
+none_behind : (n : ℕ) (word : List ℕ) (words : List (List ℕ)) → is_some (options_behind (record { turns = Some n }) (word ∷ words)) ≡ false
+none_behind n word [] = refl
+none_behind n word (name ∷ words) = rw (not_again n word name) refl
+
+pub options_long : (words : List (List ℕ)) → 3 ≤ length words → is_some (options_behind no_options words) ≡ false
+options_long [] long = absurd (omega arith)
+options_long (a ∷ []) long = absurd (omega arith)
+options_long (a ∷ b ∷ []) long = absurd (omega arith)
+options_long (a ∷ b ∷ c ∷ words) long = behind (with_option no_options a b) refl
+  where
+    behind : (o : Option Options) → with_option no_options a b ≡ o → is_some (o >>= λ more. options_behind more (c ∷ words)) ≡ false
+    behind None e = refl
+    behind (Some more) e = let t = has_turns a b more e in rw t.given (none_behind t.number c words)
+
+pub options_pair : (name word : List ℕ) → is_some (options_behind no_options (name ∷ word ∷ [])) ≡ is_some (with_option no_options name word)
+options_pair name word = given (with_option no_options name word)
+  where
+    given : (o : Option Options) → is_some (o >>= λ more. Some more) ≡ is_some o
+    given None = refl
+    given (Some options) = refl
+
+-- a list of two elements
+pub two_words : {X : Type 0} (xs : List X) (x y : X) → 2 ≤ length xs → length xs < 3 → x ≡ get_or xs 0 x → y ≡ get_or xs 1 y → xs ≡ x ∷ y ∷ []
+two_words [] x y some few a b = absurd (omega arith)
+two_words (v ∷ []) x y some few a b = absurd (omega arith)
+two_words (v ∷ w ∷ []) x y some few a b = λ i. sym a i ∷ sym b i ∷ []
+two_words (v ∷ w ∷ z ∷ xs) x y some few a b = absurd (omega arith)
+
+-- ---- the forms
+
+-- `replay` alone, or with its option
+pub data Form (words : List (List ℕ)) (options : Options) : Type 0 where
+  plain : words ≡ codes "replay" ∷ [] → options ≡ no_options → Form words options
+  with_turns : (word : List ℕ) (n : ℕ) → words ≡ codes "replay" ∷ codes "--turns" ∷ word ∷ [] → number_upto 4294967295 word ≡ Some n → options ≡ record { turns = Some n } → Form words options
+
+pub forms : (words : List (List ℕ)) (options : Options) → asked words ≡ Some options → Form words options
+forms [] options e = cc e
+forms (command ∷ words) options e =
+    let p = if_passed (bytes_eq command (codes "replay")) (options_behind no_options words) options e in
+    let named : command ≡ codes "replay" = (bytes_eq-Decides command (codes "replay")).0 p.0 in
+    behind words p.1 named
+  where
+    behind : (rest : List (List ℕ)) → options_behind no_options rest ≡ Some options → command ≡ codes "replay" → Form (command ∷ rest) options
+    behind [] is named = plain (ap (λ word. word ∷ []) named) (cc is)
+    behind (name ∷ []) is named = cc is
+    behind (name ∷ word ∷ more) is named = given (with_option no_options name word) refl is
+      where
+        given : (o : Option Options) → with_option no_options name word ≡ o → (o >>= λ given. options_behind given more) ≡ Some options → Form (command ∷ name ∷ word ∷ more) options
+        given None one all = cc all
+        given (Some so_far) one all =
+            let t = has_turns name word so_far one in
+            let r = no_more t.number more options (subst (λ (o : Options). options_behind o more ≡ Some options) t.given all) in
+            with_turns word t.number (λ i. named i ∷ t.named i ∷ word ∷ r.0 i) t.spelled r.1
+
+-- ---- the number that is read
+
+number_read : {E : Type 0} (word : List ℕ) (n : ℕ) (r : Result ℕ E) → number_upto 4294967295 word ≡ Some n → ParsesUnsigned 32 10 word r → result_ok r ≡ Some n
+number_read word n r is parses =
+    let s = spells 4294967295 word n is in
+    let some = some_of 4294967295 word n (omega arith) s in
+    let led : get_or word 0 0 ≡ 48 → length word ≡ 1 = λ z. one_digit z some (no_zero n word (omega (arith, s.within)) s.text z) in
+    number_upto-parsed word r (first_of 4294967295 word n 43 (omega arith) s (omega arith)) led parses ∙ is
+  where
+    one_digit : get_or word 0 0 ≡ 48 → 0 < length word → (1 < length word → ⊥) → length word ≡ 1
+    one_digit z some long = omega (arith, some, long)
+
+abbrev with_number : Option ℕ → Options
+with_number n = record { turns = n }
+
+module _ {E : Type 0} (G : List ℕ → Result ℕ E → Type 0) (parses : (word : List ℕ) (r : Result ℕ E) → G word r → ParsesUnsigned 32 10 word r) where
+  one_read : (word : List ℕ) (n : ℕ) (r : Option ℕ) → number_upto 4294967295 word ≡ Some n → ReadsOne G word r → r ≡ Some n
+  one_read word n (Some v) is g = number_read {E = E} word n (Ok v) is (parses word (Ok v) g)
+  one_read word n None is g = number_read {E = E} word n (Err g.0) is (parses word (Err g.0) g.1)
+
+  -- what `clap` gives for the option, read as a number, is what is asked for
+  pub turns_read : (given : Option (List ℕ)) (o : Option Options) (r : Option ℕ) → IsTurns given o → (given ≡ None → r ≡ None) → ((word : List ℕ) → given ≡ Some word → ReadsOne G word r) → o ≡ Some (with_number r)
+  turns_read None o r is none some = is ∙ λ i. Some (with_number (sym (none refl) i))
+  turns_read (Some word) o r is none some = is.2 ∙ λ i. Some (with_number (sym (one_read word is.0 r is.1 (some word refl)) i))

@@ -1,0 +1,100 @@
+-- The words as `clap` reads them.
+use Rattle.std.proofs.Common.{◌≡◌, inl, inr, ℕ, ◌<◌, ◌≤◌, List, [], ◌∷◌, length, true, Option, Some, None, refl, sym, ap, ◌∙◌, subst, codes, arith}
+use Rattle.std.specs.Prelude.{is_some}
+use Rattle.std.specs.Str.{all_ascii_digits}
+use Rattle.std.proofs.lemmas.Str.Parse.{tells_all_ascii_digits}
+use Rattle.std.proofs.Math.Nat.{eq-or-lt_of_le}
+use Rattle.clap.specs.Walk.{one_of}
+use Rattle.clap.specs.Words.{App, Rule, Text, matches_of, new_app, new_rule, takes, with_rule}
+use Rattle.clap.specs.Simple.{on_top}
+use Rattle.clap.proofs.OnLiterals.{clap_on_literals}
+use Rattle.rt_script.specs.Words.{number_upto}
+use Rattle.rt_top.specs.declared.options.Options.{Options}
+use Rattle.rt_top.specs.Words.{IsTurns, asked}
+use Rattle.rt_top.proofs.Spelled.{Spells, spells, some_of, digits_of}
+use Rattle.rt_top.proofs.Asked.{Form, plain, with_turns, forms}
+
+abbrev pub command_rule : Rule
+command_rule = record (new_rule (codes "command")) { required = true }
+
+abbrev pub turns_rule : Rule
+turns_rule = record (new_rule (codes "turns")) { long = Some (codes "turns") }
+
+abbrev pub patience_rule : Rule
+patience_rule = record (new_rule (codes "patience")) { long = Some (codes "patience") }
+
+-- words with no program's name in front
+abbrev pub bare : App
+bare = on_top (λ s. record s { no_binary_name = true }) (new_app (codes "rtlab"))
+
+-- a command, a number, and two options
+abbrev pub cli : App
+cli = with_rule (with_rule (with_rule (with_rule bare command_rule) (new_rule (codes "number"))) turns_rule) patience_rule
+
+-- the words are taken, and the option has that word
+pub record Reads (words : List Text) (word : Option Text) : Type 0 where
+  pub taken : takes cli words ≡ true
+  pub turns : one_of (codes "turns") (matches_of cli words) ≡ word
+
+pub reads_replay : Reads (codes "replay" ∷ []) None
+unfolding clap_on_literals
+reads_replay = record { taken = refl; turns = refl }
+
+-- a word that begins with d stands behind the option
+abbrev ReadsAt : List ℕ → ℕ → Type 0
+ReadsAt ds d = Reads (codes "replay" ∷ codes "--turns" ∷ (d ∷ ds) ∷ []) (Some (d ∷ ds))
+
+at_or : (P : ℕ → Type 0) (n d : ℕ) → P n → (n < d → P d) → n ≤ d → P d
+at_or P n d here more le = elim (eq-or-lt_of_le le) [ inl e ↦ subst P e here | inr lt ↦ more lt ]
+
+-- each digit by itself, since the tests of `clap` compute at numbers that are written out
+pub reads_turns : (ds : List ℕ) (d : ℕ) → 48 ≤ d → d ≤ 57 → ReadsAt ds d
+unfolding clap_on_literals
+reads_turns ds d low high =
+    at_or (ReadsAt ds) 48 d (record { taken = refl; turns = refl }) (λ l48.
+    at_or (ReadsAt ds) 49 d (record { taken = refl; turns = refl }) (λ l49.
+    at_or (ReadsAt ds) 50 d (record { taken = refl; turns = refl }) (λ l50.
+    at_or (ReadsAt ds) 51 d (record { taken = refl; turns = refl }) (λ l51.
+    at_or (ReadsAt ds) 52 d (record { taken = refl; turns = refl }) (λ l52.
+    at_or (ReadsAt ds) 53 d (record { taken = refl; turns = refl }) (λ l53.
+    at_or (ReadsAt ds) 54 d (record { taken = refl; turns = refl }) (λ l54.
+    at_or (ReadsAt ds) 55 d (record { taken = refl; turns = refl }) (λ l55.
+    at_or (ReadsAt ds) 56 d (record { taken = refl; turns = refl }) (λ l56.
+    at_or (ReadsAt ds) 57 d (record { taken = refl; turns = refl }) (λ l57. absurd (omega arith))
+    (omega arith)) (omega arith)) (omega arith)) (omega arith)) (omega arith)) (omega arith)) (omega arith)) (omega arith)) (omega arith)) (omega arith)
+
+-- the words are taken, and what is found for the option says what is asked for
+pub record IsRead (words : List Text) : Type 0 where
+  pub taken : takes cli words ≡ true
+  pub turns : IsTurns (one_of (codes "turns") (matches_of cli words)) (asked words)
+
+-- a word that spells a number begins with a digit
+read_number : (word : List ℕ) (n : ℕ) → number_upto 4294967295 word ≡ Some n → Reads (codes "replay" ∷ codes "--turns" ∷ word ∷ []) (Some word)
+read_number word n is = first word (some_of 4294967295 word n (omega arith) s) (digits_of 4294967295 word n (omega arith) s)
+  where
+    s : Spells 4294967295 word n
+    s = spells 4294967295 word n is
+
+    first : (text : List ℕ) → 0 < length text → all_ascii_digits text ≡ true → Reads (codes "replay" ∷ codes "--turns" ∷ text ∷ []) (Some text)
+    first [] some digits = absurd (omega arith)
+    first (d ∷ ds) some digits = let range = tells_all_ascii_digits.parts d ds digits in reads_turns ds d range.0.0 range.0.1
+
+pub read_words : (words : List Text) → is_some (asked words) ≡ true → IsRead words
+read_words words accepted = given (asked words) refl accepted
+  where
+    given : (o : Option Options) → asked words ≡ o → is_some o ≡ true → IsRead words
+    given None is some = cc some
+    given (Some options) is some = by_form (forms words options is)
+      where
+        by_form : Form words options → IsRead words
+        by_form (plain words_are options_are) =
+            record {
+              taken = ap (takes cli) words_are ∙ reads_replay.taken;
+              turns = subst (λ (given : Option Text). IsTurns given (asked words)) (sym (ap (λ ws. one_of (codes "turns") (matches_of cli ws)) words_are ∙ reads_replay.turns)) (is ∙ ap Some options_are);
+            }
+        by_form (with_turns word n words_are spelled options_are) =
+            let reads = read_number word n spelled in
+            record {
+              taken = ap (takes cli) words_are ∙ reads.taken;
+              turns = subst (λ (given : Option Text). IsTurns given (asked words)) (sym (ap (λ ws. one_of (codes "turns") (matches_of cli ws)) words_are ∙ reads.turns)) (n, spelled, is ∙ ap Some options_are);
+            }

@@ -1,0 +1,41 @@
+-- The lines that tell why nothing was played.
+use Rattle.std.specs.Prelude.{ℕ, List, [], ◌∷◌, ◌++◌, codes, decimal, Result, Ok, Err}
+use Rattle.rt_base.specs.Script.{Script}
+use Rattle.rt_script.specs.declared.fault.Why.{Why}
+use Rattle.rt_script.specs.declared.fault.Why.TheVariants.{NotAscii, BadHeader, BadLine, BadName, NameTwice, Unknown, BadNumber, WrongKind, TooMany, NoGo, AfterGo}
+use Rattle.rt_script.specs.Grammar.{FaultAt}
+
+-- the words aren't taken
+abbrev pub usage_line : List ℕ
+usage_line = codes "usage: rtlab replay [--turns N] | run [--turns N] [--patience N] | check | gen N [--turns N]" ++ 10 ∷ []
+
+-- the source failed
+abbrev pub read_fault_line : List ℕ
+read_fault_line = codes "read fault" ++ 10 ∷ []
+
+-- the input is longer than a script may be
+abbrev pub too_long_line : List ℕ
+too_long_line = codes "too long" ++ 10 ∷ []
+
+-- the number of what is wrong with a line
+abbrev pub fault_number : Why → ℕ
+fault_number NotAscii = 1
+fault_number BadHeader = 2
+fault_number BadLine = 3
+fault_number BadName = 4
+fault_number NameTwice = 5
+fault_number Unknown = 6
+fault_number BadNumber = 7
+fault_number WrongKind = 8
+fault_number TooMany = 9
+fault_number NoGo = 10
+fault_number AfterGo = 11
+
+-- a line of the script is at fault
+abbrev pub bad_script_line : FaultAt → List ℕ
+bad_script_line fault = codes "bad script: line " ++ decimal fault.line ++ codes ", fault " ++ decimal (fault_number fault.why) ++ 10 ∷ []
+
+-- the first fault of a text, and for a script that the machine doesn't play yet a wrong kind in no line
+abbrev pub refusal_of : Result Script FaultAt → FaultAt
+refusal_of (Err fault) = fault
+refusal_of (Ok script) = record { line = 0; why = WrongKind }

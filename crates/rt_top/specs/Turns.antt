@@ -1,0 +1,20 @@
+-- The events that the stated order makes behind the picks.
+use Rattle.std.specs.Prelude.{◌≡◌, ℕ, ◌<◌, true, length, None}
+use Rattle.rt_base.specs.Script.{Script}
+use Rattle.rt_model.specs.State.{State, start}
+use Rattle.rt_model.specs.Run.{is_enabled}
+use Rattle.rt_model.specs.Order.{Played, picked, chosen}
+
+-- some task has a next event
+abbrev pub HasNext : State → Type 0
+HasNext s = (t : ℕ) × (t < length s.threads) × (is_enabled s t ≡ true)
+
+-- exactly so many events were played, and some task still has a next one
+abbrev pub IsCutShort : ℕ → Played → Type 0
+IsCutShort turns played = (length played.events ≡ turns) × HasNext played.state
+
+-- what follows the picks: at most so many events by the stated order
+abbrev pub behind_picks : Script → ℕ → Played
+behind_picks script turns =
+    let front = picked script.picks (start script) None in
+    chosen turns front.state front.last

@@ -1,0 +1,70 @@
+// The lines that tell why nothing was played.
+ghost use Rattle.std.specs.Prelude.{◌≡◌, ◌≤◌, IfOk, string_bytes};
+ghost use Rattle.rt_top.specs.Answer.{IsTold};
+ghost use Rattle.rt_top.specs.Message.{bad_script_line, fault_number, read_fault_line, too_long_line, usage_line};
+
+use rt_base::{Sink, write_whole};
+use rt_script::Why;
+use std::alloc::{AllocError, Global};
+
+// The number of what is wrong with a line of a script.
+fn number_of(why: Why) -> u8
+    ensures { result ≡ fault_number why }
+{
+    match why {
+        Why::NotAscii => 1,
+        Why::BadHeader => 2,
+        Why::BadLine => 3,
+        Why::BadName => 4,
+        Why::NameTwice => 5,
+        Why::Unknown => 6,
+        Why::BadNumber => 7,
+        Why::WrongKind => 8,
+        Why::TooMany => 9,
+        Why::NoGo => 10,
+        Why::AfterGo => 11,
+    }
+}
+
+/// The line that tells which line of a script is at fault, numbered from 1, and why.
+pub fn bad_script(alloc: Global, line: u32, why: Why) -> Result<String, AllocError>
+    ensures { IfOk result (λ text. string_bytes text ≡ bad_script_line (record { line = line; why = why })) }
+{
+    let number = number_of(why);
+    format!(in alloc; "bad script: line {line}, fault {number}\n")
+}
+
+/// Writes a line. Where the sink fails, some front of it was written.
+pub fn tell<K: Sink>(line: &[u8], out: &mut K)
+    ensures told { IsTold line.now (record { held_before = K.held out.old; held_after = K.held out.new; faults_before = K.faults out.old; faults_after = K.faults out.new }) }
+    ensures count { K.faults out.old ≤ K.faults out.new }
+{
+    let _ = write_whole(out, line);
+}
+
+/// Writes which words are taken.
+pub fn tell_usage<K: Sink>(out: &mut K)
+    ensures told { IsTold usage_line (record { held_before = K.held out.old; held_after = K.held out.new; faults_before = K.faults out.old; faults_after = K.faults out.new }) }
+    ensures count { K.faults out.old ≤ K.faults out.new }
+{
+    tell(
+        b"usage: rtlab replay [--turns N] | run [--turns N] [--patience N] | check | gen N [--turns N]\n",
+        out,
+    );
+}
+
+/// Writes that the source failed.
+pub fn tell_read_fault<K: Sink>(out: &mut K)
+    ensures told { IsTold read_fault_line (record { held_before = K.held out.old; held_after = K.held out.new; faults_before = K.faults out.old; faults_after = K.faults out.new }) }
+    ensures count { K.faults out.old ≤ K.faults out.new }
+{
+    tell(b"read fault\n", out);
+}
+
+/// Writes that the input is too long.
+pub fn tell_too_long<K: Sink>(out: &mut K)
+    ensures told { IsTold too_long_line (record { held_before = K.held out.old; held_after = K.held out.new; faults_before = K.faults out.old; faults_after = K.faults out.new }) }
+    ensures count { K.faults out.old ≤ K.faults out.new }
+{
+    tell(b"too long\n", out);
+}

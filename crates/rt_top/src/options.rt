@@ -1,0 +1,47 @@
+ghost use Rattle.std.specs.Prelude.{◌≡◌, map, string_bytes, codes, Some, IfOk, IfErr};
+ghost use Rattle.clap.specs.Words.{found_of, kind_of, one_text};
+ghost use Rattle.rt_top.specs.Words.{IsAccepted, IsTurns, asked};
+
+use clap::error::ErrorKind;
+use clap::{Arg, ArgMatches, Command, Error};
+use rt_base::NoMemory;
+use std::alloc::Global;
+
+/// What the words ask for: a replay.
+#[derive(Clone, Copy, Debug, PartialEq, Eq)]
+pub struct Options {
+    /// How many events are made by the stated order at most, where the words say so.
+    pub turns: Option<u32>,
+}
+
+// The words as `clap` reads them.
+fn matches<'a>(alloc: Global, words: &'a [String]) -> Result<ArgMatches<'a>, Error>
+    requires { IsAccepted (map (λ word. string_bytes word) words.now) }
+    ensures turns { IfOk result (λ found. IsTurns (one_text (found_of found) (codes "turns")) (asked (map (λ word. string_bytes word) words.now))) }
+    ensures err { IfErr result (λ e. kind_of e ≡ ErrorKind.OutOfMemory) }
+{
+    let command = Arg::new(alloc, "command").required(true);
+    let number = Arg::new(alloc, "number");
+    let turns = Arg::new(alloc, "turns").long("turns");
+    let patience = Arg::new(alloc, "patience").long("patience");
+    Command::new(alloc, "rtlab")
+        .no_binary_name(true)
+        .arg(command)?
+        .arg(number)?
+        .arg(turns)?
+        .arg(patience)?
+        .try_get_matches_from(words)
+}
+
+/// What the words ask for, read by `clap`.
+pub fn options_in(alloc: Global, words: &[String]) -> Result<Options, NoMemory>
+    requires { IsAccepted (map (λ word. string_bytes word) words.now) }
+    ensures { IfOk result (λ options. asked (map (λ word. string_bytes word) words.now) ≡ Some options) }
+{
+    match matches(alloc, words) {
+        Ok(found) => Ok(Options {
+            turns: found.get_one("turns"),
+        }),
+        Err(_) => Err(NoMemory),
+    }
+}

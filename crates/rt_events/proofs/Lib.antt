@@ -1,3 +1,4 @@
 pub mod Paths
 pub mod Named
 pub mod Shared
+pub mod Short

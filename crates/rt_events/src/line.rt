@@ -20,6 +20,8 @@ pub fn write_line(script: &Script, n: &Entry, out: &mut Vec<u8>)
     ensures short { length (line_of script.now n.now) < 4096 }
     ensures capacity { vec_capacity out.old ≤ vec_capacity out.new }
 {
+    let named = n.task.0 < script.tasks();
+    prove!(named);
     push_parts(script, n, out);
 }
 
@@ -28,7 +30,6 @@ fn push_parts(script: &Script, n: &Entry, out: &mut Vec<u8>)
     requires named { IsNamedIn script.now n.now }
     requires room { vec_len out.old + 4096 ≤ vec_capacity out.old }
     ensures text { out.new.items ≡ out.old.items ++ line_of script.now n.now }
-    ensures short { length (line_of script.now n.now) < 4096 }
     ensures capacity { vec_capacity out.old ≤ vec_capacity out.new }
 {
     push_digits(out, n.number);

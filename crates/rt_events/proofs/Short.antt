@@ -5,6 +5,7 @@ use Rattle.std.proofs.lemmas.Fmt.{length-decimal-le}
 use Rattle.std.proofs.lemmas.Grind.{flat_map-append}
 use Rattle.std.proofs.lemmas.List.Elements.{All-head, All-tail}
 use Rattle.rt_base.specs.Script.{Script, IsScript, IsTaskOf, IsLockWithin, IsCellOf, lock_line}
+use Rattle.rt_base.proofs.Names.{name_length}
 use Rattle.rt_base.specs.declared.id.Cpu.{Cpu}
 use Rattle.rt_base.specs.declared.id.LockId.{LockId}
 use Rattle.rt_base.specs.declared.id.TaskId.{TaskId}
@@ -29,7 +30,7 @@ small : (n : ℕ) → n < 256 → length (decimal n) ≤ 3
 small n lt = length-decimal-le 3 n (omega arith) (omega arith) (omega arith)
 
 task_short : (script : Script) (t : TaskId) → IsScript script → IsTaskIn script t → length (task_word script t) ≤ 16
-task_short script t is lt = (All-default (IsTaskOf script) script.tasks t.0 _ is.each_task lt).name.1
+task_short script t is lt = (name_length (task_word script t) (All-default (IsTaskOf script) script.tasks t.0 _ is.each_task lt).name).1
 
 cell_short : (cpus : ℕ) (kind : Kind) (cell : Option Cpu) → cpus ≤ 8 → IsCellOf cpus kind cell → length (cell_word cell) ≤ 4
 cell_short cpus kind None few is = omega arith
@@ -43,7 +44,7 @@ lock_short : (script : Script) (l : LockId) → IsScript script → IsLockIn scr
 lock_short script l is lt =
     let line = All-default (IsLockWithin script.cpus) script.locks l.0 _ is.each_lock lt in
     let cell = cell_short script.cpus (lock_line script l).kind (lock_line script l).cell is.cpus.1 line.cell in
-    omega (arith, line.name.1, cell, length-append (lock_line script l).name (cell_word (lock_line script l).cell))
+    omega (arith, (name_length (lock_line script l).name line.name).1, cell, length-append (lock_line script l).name (cell_word (lock_line script l).cell))
 
 -- ---- words behind spaces
 

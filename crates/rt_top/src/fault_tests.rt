@@ -2,7 +2,7 @@
 ghost use Rattle.std.specs.Prelude.{None};
 
 use crate::rtlab;
-use crate::tests::{INVERSION, INVERSION_JOURNAL, long_script, words};
+use crate::tests::{INVERSION, INVERSION_JOURNAL, long_script, too_long, words};
 use rt_base::{AlwaysGo, Failed, MemSink, MemSource, PlainSink, PlainSource, Sink, Source};
 use std::alloc::Global;
 use std::process::Abort;
@@ -80,10 +80,11 @@ fn replay_with_faults<R: Abort + Threads + Sync>(
     Ok((status, out.bytes().to_vec(alloc)?))
 }
 
-/// The same where one byte is read and one written at a time.
+/// The same of that word, where one byte is read and one written at a time.
 fn drip_with_faults<R: Abort + Threads + Sync>(
     rt: &R,
     alloc: Global,
+    word: &str,
     text: &[u8],
     read: u32,
     write: u32,
@@ -94,11 +95,17 @@ fn drip_with_faults<R: Abort + Threads + Sync>(
     let mut out = DripSink {
         sink: mem_sink(alloc, write)?,
     };
-    let replay = words(alloc, &["replay"])?;
-    let status = rtlab(rt, alloc, &replay, &mut src, &mut out, &AlwaysGo);
+    let words = words(alloc, &[word])?;
+    let status = rtlab(rt, alloc, &words, &mut src, &mut out, &AlwaysGo);
     Ok((status, out.sink.bytes().to_vec(alloc)?))
 }
 
+/// The first bytes of a text, that many or all.
+fn front(text: &[u8], count: u32) -> &[u8] {
+    text.split_at(text.len().min(count as usize)).0
+}
+
+/// A number that no call has.
 const NEVER: u32 = 1_000_000;
 
 #[test]
@@ -115,8 +122,8 @@ fn each_read_fails(rt: HostRuntime) -> Result<(), Fail> {
         let (status, _) = replay_with_faults(&rt, alloc, text, reads, NEVER)?;
         assert_eq!(rt; status, 0);
     }
-    for fail in 0..INVERSION.len() as u32 + 1 {
-        let (status, bytes) = drip_with_faults(&rt, alloc, INVERSION, fail, NEVER)?;
+    for fail in 0..133 {
+        let (status, bytes) = drip_with_faults(&rt, alloc, "replay", INVERSION, fail, NEVER)?;
         assert_eq!(rt; status, 6);
         assert_eq!(rt; bytes.as_slice(), b"read fault\n".as_slice());
     }
@@ -140,12 +147,12 @@ fn each_write_fails(rt: HostRuntime) -> Result<(), Fail> {
         assert_eq!(rt; status, 0);
         assert_eq!(rt; bytes.as_slice(), whole.as_slice());
     }
-    for fail in 0..INVERSION_JOURNAL.len() {
-        let (status, bytes) = drip_with_faults(&rt, alloc, INVERSION, NEVER, fail as u32)?;
+    for fail in 0..190 {
+        let (status, bytes) = drip_with_faults(&rt, alloc, "replay", INVERSION, NEVER, fail)?;
         assert_eq!(rt; status, 7);
-        assert_eq!(rt; bytes.as_slice(), INVERSION_JOURNAL.split_at(fail).0);
+        assert_eq!(rt; bytes.as_slice(), front(INVERSION_JOURNAL, fail));
     }
-    let (status, bytes) = drip_with_faults(&rt, alloc, INVERSION, NEVER, NEVER)?;
+    let (status, bytes) = drip_with_faults(&rt, alloc, "replay", INVERSION, NEVER, NEVER)?;
     assert_eq!(rt; status, 0);
     assert_eq!(rt; bytes.as_slice(), INVERSION_JOURNAL);
     Ok(())
@@ -154,9 +161,9 @@ fn each_write_fails(rt: HostRuntime) -> Result<(), Fail> {
 #[test]
 fn message_whose_write_fails_keeps_its_status(rt: HostRuntime) -> Result<(), Fail> {
     let alloc = rt.alloc();
-    let long = vec![in alloc; b'\n'; 1_048_577]?;
+    let long = too_long(alloc)?;
     let rows: [(&str, &[u8], u32, u8, &str); 4] = [
-        ("x", b"", NEVER, 2, "usage: "),
+        ("x", b"", NEVER, 2, "usage: rtlab replay"),
         (
             "replay",
             b"rtscript 1\nx\n",
@@ -168,17 +175,10 @@ fn message_whose_write_fails_keeps_its_status(rt: HostRuntime) -> Result<(), Fai
         ("replay", &long, NEVER, 9, "too long\n"),
     ];
     for (word, text, read, status, line) in rows {
-        for fail in 0..line.len() {
-            let mut src = mem_source(alloc, text, read)?;
-            let mut out = DripSink {
-                sink: mem_sink(alloc, fail as u32)?,
-            };
-            let words = words(alloc, &[word])?;
-            assert_eq!(rt;
-                rtlab(&rt, alloc, &words, &mut src, &mut out, &AlwaysGo),
-                status
-            );
-            assert_eq!(rt; out.sink.bytes(), line.as_bytes().split_at(fail).0);
+        for fail in 0..9 {
+            let (told, bytes) = drip_with_faults(&rt, alloc, word, text, read, fail)?;
+            assert_eq!(rt; told, status);
+            assert_eq!(rt; bytes.as_slice(), front(line.as_bytes(), fail));
         }
     }
     Ok(())

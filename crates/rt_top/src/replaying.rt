@@ -9,6 +9,7 @@ ghost use Rattle.rt_model.specs.Order.{replayed};
 ghost use Rattle.rt_events.specs.Journal.{header, lines_of};
 ghost use Rattle.rt_core.specs.Text.{replay_text};
 ghost use Rattle.rt_top.specs.Turns.{IsCutShort, behind_picks};
+ghost use Rattle.rt_top.specs.Words.{most_turns};
 
 use crate::playing::{finish, run_picks};
 use crate::printing::{LINE_ROOM, hand_over};
@@ -40,7 +41,7 @@ fn print_journal<K: Sink>(
 ) -> Result<Ended, Failed>
     requires start { core.old ≡ record { state = start script.now; made = 0 } }
     requires valid { IsScript script.now }
-    requires turns { turns ≤ 4294967295 }
+    requires turns { turns ≤ most_turns }
     requires script { IsOf script.now core.old.state }
     requires empty { buf.old.items ≡ [] }
     requires room { LINE_ROOM ≤ vec_capacity buf.old }
@@ -69,7 +70,7 @@ pub fn print_replay<K: Sink>(
 ) -> Result<Ended, Failed>
     requires start { core.old ≡ record { state = start script.now; made = 0 } }
     requires valid { IsScript script.now }
-    requires turns { turns ≤ 4294967295 }
+    requires turns { turns ≤ most_turns }
     requires script { IsOf script.now core.old.state }
     requires empty { buf.old.items ≡ [] }
     requires room { LINE_ROOM ≤ vec_capacity buf.old }

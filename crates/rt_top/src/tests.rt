@@ -450,6 +450,11 @@ fn which_scripts_are_played(rt: HostRuntime) -> Result<(), Fail> {
     compare_replays(&rt, rt.alloc(), &rows)
 }
 
+/// An input that is longer than a script may be, by one byte.
+pub(crate) fn too_long(alloc: Global) -> Result<Vec<u8>, AllocError> {
+    vec![in alloc; b'\n'; 1_048_577]
+}
+
 /// A script whose one task locks and unlocks a mutex so many times.
 pub(crate) fn long_script(alloc: Global, times: u32) -> Result<Vec<u8>, AllocError> {
     let mut text = b"rtscript 1\ntask a 50 0\nlock m mutex\n".to_vec(alloc)?;

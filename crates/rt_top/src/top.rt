@@ -2,7 +2,7 @@ ghost use Rattle.std.specs.Prelude.{◌≡◌, ◌≢◌, ◌↔◌, ◌≤◌, 
 ghost use Rattle.rt_base.specs.Outside.{Takes};
 ghost use Rattle.rt_base.specs.Script.{HasOneMutex, IsScript};
 ghost use Rattle.rt_script.specs.Grammar.{FaultAt};
-ghost use Rattle.rt_top.specs.Words.{IsAccepted, asked};
+ghost use Rattle.rt_top.specs.Words.{IsAccepted, asked, most_turns};
 ghost use Rattle.rt_top.specs.Answer.{Answers, AnswersReplay, AnswersInput, Replays, Refuses, turns_of};
 ghost use Rattle.rt_top.specs.Status.{number_of};
 ghost use Rattle.rt_top.specs.declared.status.Status.{Status};
@@ -134,7 +134,7 @@ fn refuse<K: Sink>(alloc: Global, line: u32, why: Why, out: &mut K) -> Status
 fn turns(options: Options, script: &Script) -> u64
     requires { IsScript script.now }
     ensures value { result ≡ turns_of options script.now }
-    ensures few { result ≤ 4294967295 }
+    ensures few { result ≤ most_turns }
 {
     match options.turns {
         Some(turns) => turns as u64,

@@ -1,6 +1,8 @@
 // Which words are taken, what is refused, and what is written then.
 use crate::rtlab;
-use crate::tests::{INVERSION, INVERSION_JOURNAL, ONE_MUTEX, compare_replays, source, words};
+use crate::tests::{
+    INVERSION, INVERSION_JOURNAL, ONE_MUTEX, compare_replays, source, too_long, words,
+};
 use rt_base::{AlwaysGo, MemSink, MemSource, PlainSink};
 use std::alloc::{AllocError, Global};
 use std::test::Fail;
@@ -175,7 +177,7 @@ fn many_tasks(alloc: Global, tasks: u32) -> Result<Vec<u8>, AllocError> {
 fn refusals(rt: HostRuntime) -> Result<(), Fail> {
     let alloc = rt.alloc();
     let crowd = many_tasks(alloc, 65)?;
-    let endless = vec![in alloc; b'\n'; 1_048_577]?;
+    let endless = too_long(alloc)?;
     let rows: [(&[u8], &[u8], u8); 13] = [
         (b"", b"bad script: line 1, fault 2\n", 3),
         (&crowd, b"bad script: line 66, fault 9\n", 3),
@@ -237,7 +239,7 @@ fn order_of_refusals(rt: HostRuntime) -> Result<(), Fail> {
     let alloc = rt.alloc();
     let whole = b"rtscript 1\ngo\n".to_vec(alloc)?;
     let bad = b"rtscript 1\nrun\n".to_vec(alloc)?;
-    let long = vec![in alloc; b'\n'; 1_048_577]?;
+    let long = too_long(alloc)?;
     let rows: [(&str, &Vec<u8>, u32, u32, u8, &str); 8] = [
         // words before a read, a read before a script, a script before a write
         ("x", &whole, 0, 9, 2, USAGE),

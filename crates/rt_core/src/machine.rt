@@ -212,7 +212,7 @@ impl Core {
         }
     }
 
-    /// The one event that a task may make now. It depends on nothing but what it touches, and its entry
+    /// The one event that a task may make now. Of lawful states it depends on nothing but what it touches, and its entry
     /// is well formed for the core's script.
     pub fn next(&self, t: TaskId) -> Option<Event>
         requires { t.0 < length self.now.state.threads }
@@ -357,7 +357,7 @@ impl Core {
         ensures state { self.new.state ≡ state_after self.old.state e.now }
         ensures made { self.new.made ≡ self.old.made + 1 }
 
-        // What the event leaves of what it touches depends on nothing else, and all else stays.
+        // Of lawful states, what the event leaves of what it touches depends on nothing else; and all else stays.
         ensures local { (s : State) (made : ℕ) → IsLawful s made → AgreeOn e.now self.old.state s → AgreeOn e.now self.new.state (state_after s e.now) }
         ensures frame { (o : Obj) → touches e.now o ≡ false → object self.new.state o ≡ object self.old.state o }
 

@@ -7,7 +7,7 @@ use rt_model::{Event, EventKind};
 /// An event as a line of a journal tells it.
 #[derive(Clone, Copy, Debug, PartialEq, Eq)]
 pub struct Entry {
-    /// Its place in the journal, from 1 on.
+    /// The number of its line. A journal counts from 1.
     pub number: u64,
     /// The task that acts.
     pub task: TaskId,

@@ -15,7 +15,7 @@ pub fn touches(e: &Event, o: Obj) -> bool
     any_object(e, &|other| same_object(o, other))
 }
 
-/// Whether two events touch no object together, and so may be made in either order.
+/// Whether two events touch no object together.
 pub fn disjoint(a: &Event, b: &Event) -> bool
     ensures { IsTrue result ↔ ((o : Obj) → touches a.now o ≡ true → touches b.now o ≡ false) }
 {

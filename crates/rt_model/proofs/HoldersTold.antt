@@ -16,7 +16,7 @@ use Rattle.rt_model.specs.NextEvent.{if_held, if_not_held}
 use Rattle.rt_model.specs.After.{owner_part_after, state_after}
 use Rattle.rt_model.specs.Run.{after, IsRun}
 use Rattle.rt_model.specs.Laws.{IsLawful, owned_by}
-use Rattle.rt_model.specs.Holders.{acquires, releases, owner_behind, is_on, holder_of, HoldersLaw, DeadlocksLaw}
+use Rattle.rt_model.specs.Holders.{acquires, releases, owner_behind, is_on, holders_of, HoldersLaw, DeadlocksLaw}
 use Rattle.rt_model.proofs.NextEvents.{IsNext, IsRefused, refused, fast, mark, take, wait, again, free, give}
 use Rattle.rt_model.proofs.Within.{lock-next}
 use Rattle.rt_model.proofs.PartsAfter.{names}
@@ -146,7 +146,7 @@ module _ (s : State) (made : ℕ) (events : List Event) (lawful : IsLawful s mad
   front-run : (front rest : List Event) → front ++ rest ≡ events → IsRun s (front ++ rest)
   front-run front rest is = subst (IsRun s) (sym is) run
 
-  holder-told : (front rest : List Event) (l : LockId) → front ++ rest ≡ events → holder_of front l ≡ (owner_part (after s front) l).owner
+  holder-told : (front rest : List Event) (l : LockId) → front ++ rest ≡ events → holders_of front l ≡ (owner_part (after s front) l).owner
   holder-told front rest l is = told-from s made front l None lawful (run-front s front rest (front-run front rest is)) (sym (free l))
 
   -- the state that an event is made in is lawful, and the event is the next one there

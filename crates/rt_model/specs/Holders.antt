@@ -32,20 +32,20 @@ is_on None l = false
 is_on (Some m) l = nat_eq m.0 l.0
 
 -- the owner of a lock behind these events, from no owner on
-abbrev pub holder_of : List Event → LockId → Option TaskId
-holder_of events l = fold (λ owner e. if is_on e.lock l then owner_behind e owner else owner) None events
+abbrev pub holders_of : List Event → LockId → Option TaskId
+holders_of events l = fold (λ owner e. if is_on e.lock l then owner_behind e owner else owner) None events
 
 -- behind each front of the events the holder by the events is the owner in the state; no event makes its task the owner
 -- of a lock that has one, and none but the holder leaves a lock without owner
 pub record HoldersLaw (s : State) (events : List Event) : Type 0 where
-  pub told : (front rest : List Event) (l : LockId) → front ++ rest ≡ events → holder_of front l ≡ (owner_part (after s front) l).owner
-  pub alone : (front rest : List Event) (e : Event) (l : LockId) → front ++ e ∷ rest ≡ events → e.lock ≡ Some l → acquires e.kind ≡ true → holder_of front l ≡ None
-  pub own : (front rest : List Event) (e : Event) (l : LockId) → front ++ e ∷ rest ≡ events → e.lock ≡ Some l → releases e.kind ≡ true → holder_of front l ≡ Some e.task
+  pub told : (front rest : List Event) (l : LockId) → front ++ rest ≡ events → holders_of front l ≡ (owner_part (after s front) l).owner
+  pub alone : (front rest : List Event) (e : Event) (l : LockId) → front ++ e ∷ rest ≡ events → e.lock ≡ Some l → acquires e.kind ≡ true → holders_of front l ≡ None
+  pub own : (front rest : List Event) (e : Event) (l : LockId) → front ++ e ∷ rest ≡ events → e.lock ≡ Some l → releases e.kind ≡ true → holders_of front l ≡ Some e.task
 
 -- a task that is answered deadlock holds the lock itself, by the events before
 pub record IsHeldItself (front : List Event) (e : Event) : Type 0 where
   pub kind : e.kind ≡ events.Own
-  pub held : (l : LockId) × (e.lock ≡ Some l) × (holder_of front l ≡ Some e.task)
+  pub held : (l : LockId) × (e.lock ≡ Some l) × (holders_of front l ≡ Some e.task)
 
 -- each deadlock answer has this cause
 abbrev pub DeadlocksLaw : List Event → Type 0

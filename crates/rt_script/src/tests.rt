@@ -326,8 +326,10 @@ fn each_kind_with_each_call(rt: HostRuntime) -> Result<(), Fail> {
     Ok(())
 }
 
-const CHAIN: &str = "rtscript 1\ntask a 90 0\ntask b 50 0\nlock m1 mutex\nlock m2 mutex\n\
-    call a lock m1\ncall a unlock m1\ncall b lock m2\ncall b lock m1\npick a\npick b\ngo\n";
+const CHAIN: &str = "rtscript 1\ntask a 90 0\ntask b 50 0\ntask c 10 0\nlock m1 mutex\n\
+    lock m2 mutex\ncall a lock m1\ncall a unlock m1\ncall b lock m2\ncall b lock m1\n\
+    call b unlock m1\ncall b unlock m2\ncall c lock m2\ncall c unlock m2\npick a\npick b\n\
+    pick b\npick b\npick c\npick c\ngo\n";
 
 #[test]
 fn no_front_of_a_script_is_one(rt: HostRuntime) {
@@ -409,23 +411,26 @@ fn at_most_64_tasks(rt: HostRuntime) -> Result<(), Fail> {
     Ok(())
 }
 
-// A header of 8 processors, and so many local locks.
-fn locals_text(alloc: Global, locks: u32) -> Result<String, Fail> {
+// A header of 8 processors, so many local locks, and this line.
+fn locals_text(alloc: Global, locks: u32, line: &str) -> Result<String, Fail> {
     let mut text = format!(in alloc; "rtscript 1\ncpus 8\n")?;
     for i in 0..locks {
         let line = format!(in alloc; "lock k{i} local\n")?;
         text.push_str(&line)?;
     }
-    text.push_str("go\n")?;
+    text.push_str(line)?;
+    text.push_str("\ngo\n")?;
     Ok(text)
 }
 
 #[test]
 fn a_local_lock_counts_for_each_processor(rt: HostRuntime) -> Result<(), Fail> {
-    let most = locals_text(rt.alloc(), 32)?;
-    let over = locals_text(rt.alloc(), 33)?;
-    assert!(rt; most.len() < 2000 && over.len() < 2000);
+    let most = locals_text(rt.alloc(), 31, "lock l local")?;
+    let one_over = locals_text(rt.alloc(), 32, "lock m mutex")?;
+    let over = locals_text(rt.alloc(), 32, "lock l local")?;
+    assert!(rt; most.len() < 2000 && one_over.len() < 2000 && over.len() < 2000);
     assert_eq!(rt; read_script(rt.alloc(), most.as_bytes())?.locks(), 256);
+    refuses(&rt, rt.alloc(), one_over.as_bytes(), 35, Why::TooMany);
     refuses(&rt, rt.alloc(), over.as_bytes(), 35, Why::TooMany);
     Ok(())
 }

@@ -63,7 +63,7 @@ fn rewritten<R: Abort>(rt: &R, alloc: Global, text: &[u8]) -> Result<Vec<u8>, Fa
 }
 
 // The worked rows' scripts.
-const ROWS: [(&str, &[u8]); 19] = [
+const ROWS: [(&str, &[u8]); 20] = [
     (
         "bit_without_waiters",
         b"rtscript 1\ntask a 50 0\ntask c 50 0\nlock m mutex\ncall a lock m\ncall a unlock m\n\
@@ -125,6 +125,11 @@ const ROWS: [(&str, &[u8]); 19] = [
           pick b\npick b\npick c\npick c\npick c\npick d\npick c\npick c\ngo\n",
     ),
     (
+        "forced_interleavings",
+        b"rtscript 1\ntask a 50 0\ntask b 50 0\nlock m mutex\ncall a lock m\ncall a unlock m\n\
+          call b lock m\ncall b unlock m\ngo\n",
+    ),
+    (
         "inversion",
         b"rtscript 1\ntask a 90 0\ntask c 10 0\nlock m mutex\ncall a lock m\ncall a unlock m\n\
           call c lock m\ncall c unlock m\npick a\npick c\npick c\ngo\n",
@@ -182,6 +187,48 @@ fn worked_rows_are_written_and_read(rt: HostRuntime) -> Result<(), Fail> {
         let written = rewritten(&rt, rt.alloc(), text)?;
         assert!(rt; written.starts_with(b"rtscript 1\ncpus "), "{name}");
     }
+    Ok(())
+}
+
+// A driver's nesting: 16 tasks, of which each takes 20 pairs of 40 mutexes, one inside the other.
+fn driver_nesting(alloc: Global) -> Result<String, Fail> {
+    let mut text = format!(in alloc; "rtscript 1\n")?;
+    for t in 0..16u32 {
+        let prio = 50 + t;
+        let line = format!(in alloc; "task t{t} {prio} 0\n")?;
+        text.push_str(&line)?;
+    }
+    for m in 0..40u32 {
+        let line = format!(in alloc; "lock m{m} mutex\n")?;
+        text.push_str(&line)?;
+    }
+    for t in 0..16u32 {
+        for k in 0..20u32 {
+            let j = (2 * t + k) % 39;
+            let pair = nested_pair(alloc, t, j)?;
+            text.push_str(&pair)?;
+        }
+    }
+    text.push_str("go\n")?;
+    Ok(text)
+}
+
+// Task t takes mutex j and the one behind it, and gives both back.
+fn nested_pair(alloc: Global, t: u32, j: u32) -> Result<String, Fail> {
+    let next = if j < 40 { j + 1 } else { 0 };
+    Ok(format!(in alloc;
+        "call t{t} lock m{j}\ncall t{t} lock m{next}\ncall t{t} unlock m{next}\ncall t{t} unlock m{j}\n"
+    )?)
+}
+
+#[test]
+fn driver_nesting_is_written_and_read(rt: HostRuntime) -> Result<(), Fail> {
+    let text = driver_nesting(rt.alloc())?;
+    assert!(rt; text.len() < 100_000);
+    let written = rewritten(&rt, rt.alloc(), text.as_bytes())?;
+    assert!(rt; written.len() < 100_000);
+    let script = read_script(rt.alloc(), &written)?;
+    assert!(rt; script.tasks() == 16 && script.locks() == 40 && script.all_calls() == 1280);
     Ok(())
 }
 

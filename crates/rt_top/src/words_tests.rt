@@ -240,7 +240,8 @@ fn order_of_refusals(rt: HostRuntime) -> Result<(), Fail> {
     let whole = b"rtscript 1\ngo\n".to_vec(alloc)?;
     let bad = b"rtscript 1\nrun\n".to_vec(alloc)?;
     let long = too_long(alloc)?;
-    let rows: [(&str, &Vec<u8>, u32, u32, u8, &str); 8] = [
+    let row = ONE_MUTEX.to_vec(alloc)?;
+    let rows: [(&str, &Vec<u8>, u32, u32, u8, &str); 10] = [
         // words before a read, a read before a script, a script before a write
         ("x", &whole, 0, 9, 2, USAGE),
         ("x", &whole, 0, 0, 2, ""),
@@ -248,6 +249,8 @@ fn order_of_refusals(rt: HostRuntime) -> Result<(), Fail> {
         ("replay", &bad, 9, 9, 3, "bad script: line 2, fault 3\n"),
         ("replay", &bad, 9, 0, 3, ""),
         ("replay", &whole, 9, 0, 7, ""),
+        ("replay", &row, 0, 9, 6, "read fault\n"),
+        ("replay", &row, 9, 0, 7, ""),
         // a fault within the limit, and one that would come behind it
         ("replay", &long, 16, 9, 6, "read fault\n"),
         ("replay", &long, 17, 9, 9, "too long\n"),

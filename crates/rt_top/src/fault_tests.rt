@@ -106,7 +106,7 @@ fn front(text: &[u8], count: u32) -> &[u8] {
 }
 
 /// A number that no call has.
-const NEVER: u32 = 1_000_000;
+const NEVER: u32 = 4_000_000_000;
 
 #[test]
 fn each_read_fails(rt: HostRuntime) -> Result<(), Fail> {

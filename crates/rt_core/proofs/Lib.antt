@@ -7,3 +7,4 @@ pub mod Queues
 pub mod Tops
 pub mod Notes
 pub mod Told
+pub mod ReportShort

@@ -54,6 +54,11 @@ note_words script (notes.Lock l key) = codes "lock" ∷ lock_word script l ∷ d
 note_words script (notes.Readers l) = codes "readers" ∷ lock_word script l ∷ []
 note_words script notes.Wake = codes "wake" ∷ []
 
+-- the key that the note tells, 0 where it tells none
+abbrev pub note_key : Note → ℕ
+note_key (notes.Lock l key) = key
+note_key _ = 0
+
 -- what the note names is among so many tasks and locks
 abbrev pub IsNoteWithin : ℕ → ℕ → Note → Type 0
 IsNoteWithin tasks locks (notes.Walk cursor) = cursor.0 < tasks

@@ -2,7 +2,7 @@ ghost use Rattle.std.specs.Prelude.{◌≡◌, ◌<◌, ◌≤◌, ◌^◌, min,
 ghost use Rattle.rt_model.specs.State.{free_lock};
 ghost use Rattle.rt_model.specs.Rows.{top_waiter, top_key, row_of, queued_key, without, reason_before, reason_among, reason_to_take};
 ghost use Rattle.rt_model.specs.Steps.{queued, left_by, given_up};
-ghost use Rattle.rt_core.specs.Cells.{is_first, is_top};
+ghost use Rattle.rt_core.specs.Cells.{HasPriorities, is_first, is_top};
 
 use crate::waiters::Waiters;
 use rt_base::{Kind, NoMemory, Prio, TaskId};
@@ -85,6 +85,7 @@ impl LockCell {
     pub fn waiters(&self) -> &Waiters
         ensures rows { result.now.rows ≡ self.now.part.rows }
         ensures room { result.now.room ≡ self.now.tasks }
+        ensures priorities { HasPriorities self.now.part.rows }
     {
         &self.waiters
     }

@@ -1,7 +1,8 @@
-ghost use Rattle.std.specs.Prelude.{◌≡◌, ◌+◌, ◌*◌, ◌<◌, ◌≤◌, ◌∷◌, ◌++◌, length, map, vec_len, All, IfSome};
+ghost use Rattle.std.specs.Prelude.{◌≡◌, ◌+◌, ◌*◌, ◌^◌, ◌<◌, ◌≤◌, ◌∷◌, ◌++◌, length, map, vec_len, All, IfSome};
 ghost use Rattle.std.specs.Vec.{vec_capacity};
+ghost use Rattle.rt_model.specs.Parts.{effective_of};
 ghost use Rattle.rt_events.specs.Words.{spaced};
-ghost use Rattle.rt_core.specs.Report.{bit_word, priority_words, progress_words, note_words, task_line_of, owner_words, reader_words, row_word, lock_line_of, IsNoteWithin};
+ghost use Rattle.rt_core.specs.Report.{bit_word, priority_words, progress_words, note_words, note_key, task_line_of, owner_words, reader_words, row_word, lock_line_of, IsNoteWithin};
 
 use crate::lock_cell::LockCell;
 use crate::note::Note;
@@ -31,6 +32,8 @@ pub(crate) fn write_task_line(
     ensures short { length (task_line_of script.now t cell.now thread.now note) < 4096 }
     ensures capacity { vec_capacity out.old ≤ vec_capacity out.new }
 {
+    let named = t.0 < script.tasks();
+    prove!(named);
     append(out, b"task");
     push_priorities(script, t, cell, out);
     push_progress(cell, thread, out);
@@ -43,6 +46,8 @@ fn push_priorities(script: &Script, t: TaskId, cell: &TaskCell, out: &mut Vec<u8
     requires task { t.0 < length script.now.tasks }
     requires room { vec_len out.old + 3 * WORD_ROOM ≤ vec_capacity out.old }
     ensures text { out.new.items ≡ out.old.items ++ spaced (priority_words script.now t cell.now) }
+    ensures own { cell.now.own ≤ 139 }
+    ensures effective { effective_of cell.now ≤ 139 }
     ensures grows { vec_len out.new ≤ vec_len out.old + 3 * WORD_ROOM }
     ensures capacity { vec_capacity out.old ≤ vec_capacity out.new }
 {
@@ -55,6 +60,8 @@ fn push_priorities(script: &Script, t: TaskId, cell: &TaskCell, out: &mut Vec<u8
 fn push_progress(cell: &TaskCell, thread: &Thread, out: &mut Vec<u8>)
     requires room { vec_len out.old + 3 * WORD_ROOM ≤ vec_capacity out.old }
     ensures text { out.new.items ≡ out.old.items ++ spaced (progress_words cell.now thread.now) }
+    ensures answered { thread.now.answered < 2 ^ 32 }
+    ensures calls { length thread.now.calls < 2 ^ 64 }
     ensures grows { vec_len out.new ≤ vec_len out.old + 3 * WORD_ROOM }
     ensures capacity { vec_capacity out.old ≤ vec_capacity out.new }
 {
@@ -70,6 +77,7 @@ fn push_note(script: &Script, note: Note, out: &mut Vec<u8>)
     requires note { IsNoteWithin (length script.now.tasks) (length script.now.locks) note }
     requires room { vec_len out.old + 3 * WORD_ROOM ≤ vec_capacity out.old }
     ensures text { out.new.items ≡ out.old.items ++ spaced (note_words script.now note) }
+    ensures key { note_key note ≤ 139 }
     ensures grows { vec_len out.new ≤ vec_len out.old + 3 * WORD_ROOM }
     ensures capacity { vec_capacity out.old ≤ vec_capacity out.new }
 {
@@ -111,6 +119,8 @@ pub(crate) fn write_lock_line(
     ensures short { length (lock_line_of script.now l cell.now.part readers) < 4096 }
     ensures capacity { vec_capacity out.old ≤ vec_capacity out.new }
 {
+    let named = l.0 < script.locks();
+    prove!(named);
     append(out, b"lock");
     push_owner(script, l, cell, out);
     push_readers(cell.kind(), readers, out);
@@ -144,6 +154,7 @@ fn push_owner(script: &Script, l: LockId, cell: &LockCell, out: &mut Vec<u8>)
 fn push_readers(kind: Kind, readers: ReaderCell, out: &mut Vec<u8>)
     requires room { vec_len out.old + 3 * WORD_ROOM ≤ vec_capacity out.old }
     ensures text { out.new.items ≡ out.old.items ++ spaced (reader_words kind readers) }
+    ensures count { readers.count < 2 ^ 32 }
     ensures grows { vec_len out.new ≤ vec_len out.old + 3 * WORD_ROOM }
     ensures capacity { vec_capacity out.old ≤ vec_capacity out.new }
 {

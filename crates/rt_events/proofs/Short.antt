@@ -29,7 +29,7 @@ use Rattle.rt_events.proofs.Named.{named}
 small : (n : ℕ) → n < 256 → length (decimal n) ≤ 3
 small n lt = length-decimal-le 3 n (omega arith) (omega arith) (omega arith)
 
-task_short : (script : Script) (t : TaskId) → IsScript script → IsTaskIn script t → length (task_word script t) ≤ 16
+pub task_short : (script : Script) (t : TaskId) → IsScript script → IsTaskIn script t → length (task_word script t) ≤ 16
 task_short script t is lt = (name_length (task_word script t) (All-default (IsTaskOf script) script.tasks t.0 _ is.each_task lt).name).1
 
 cell_short : (cpus : ℕ) (kind : Kind) (cell : Option Cpu) → cpus ≤ 8 → IsCellOf cpus kind cell → length (cell_word cell) ≤ 4
@@ -40,7 +40,7 @@ cell_short cpus locks.Spin (Some cpu) few is = absurd cc
 cell_short cpus locks.RwLock (Some cpu) few is = absurd cc
 cell_short cpus locks.RwSem (Some cpu) few is = absurd cc
 
-lock_short : (script : Script) (l : LockId) → IsScript script → IsLockIn script l → length (lock_word script l) ≤ 20
+pub lock_short : (script : Script) (l : LockId) → IsScript script → IsLockIn script l → length (lock_word script l) ≤ 20
 lock_short script l is lt =
     let line = All-default (IsLockWithin script.cpus) script.locks l.0 _ is.each_lock lt in
     let cell = cell_short script.cpus (lock_line script l).kind (lock_line script l).cell is.cpus.1 line.cell in
@@ -51,11 +51,17 @@ lock_short script l is lt =
 spaced_both : (xs ys : List (List ℕ)) → length (spaced (xs ++ ys)) ≡ length (spaced xs) + length (spaced ys)
 spaced_both xs ys = ap length (flat_map-append (λ (w : List ℕ). 32 ∷ w) xs ys) ∙ length-append (spaced xs) (spaced ys)
 
-spaced_cons : (x : List ℕ) (xs : List (List ℕ)) → length (spaced (x ∷ xs)) ≡ 1 + length x + length (spaced xs)
+pub spaced_cons : (x : List ℕ) (xs : List (List ℕ)) → length (spaced (x ∷ xs)) ≡ 1 + length x + length (spaced xs)
 spaced_cons x xs = omega (arith, length-append (32 ∷ x) (spaced xs))
 
-spaced_one : (x : List ℕ) → length (spaced (x ∷ [])) ≡ 1 + length x
+pub spaced_one : (x : List ℕ) → length (spaced (x ∷ [])) ≡ 1 + length x
 spaced_one x = omega (arith, spaced_cons x [])
+
+pub two_words : (x y : List ℕ) → length (spaced (x ∷ y ∷ [])) ≡ 2 + length x + length y
+two_words x y = omega (arith, spaced_cons x (y ∷ []), spaced_one y)
+
+pub three_words : (x y z : List ℕ) → length (spaced (x ∷ y ∷ z ∷ [])) ≡ 3 + length x + length y + length z
+three_words x y z = omega (arith, spaced_cons x (y ∷ z ∷ []), two_words y z)
 
 lock_words_short : (script : Script) (lock : Option LockId) → IsScript script → IfSome lock (IsLockIn script) → length (spaced (lock_words script lock)) ≤ 21
 lock_words_short script None is there = omega arith
@@ -65,13 +71,13 @@ task_words_short : (script : Script) (task : Option TaskId) → IsScript script 
 task_words_short script None is there = omega arith
 task_words_short script (Some t) is there = omega (arith, task_short script t is there, spaced_one (task_word script t))
 
-dash_short : (script : Script) (task : Option TaskId) → IsScript script → IfSome task (IsTaskIn script) → length (spaced (task_or_dash script task ∷ [])) ≤ 17
+pub dash_short : (script : Script) (task : Option TaskId) → IsScript script → IfSome task (IsTaskIn script) → length (spaced (task_or_dash script task ∷ [])) ≤ 17
 dash_short script None is there = omega arith
 dash_short script (Some t) is there = omega (arith, task_short script t is there, spaced_one (task_word script t))
 
 wakes_short : (script : Script) (task : Option TaskId) → IsScript script → IfSome task (IsTaskIn script) → length (spaced (wakes_words script task)) ≤ 23
 wakes_short script None is there = omega arith
-wakes_short script (Some t) is there = omega (arith, task_short script t is there, spaced_one (task_word script t), spaced_cons (codes "wakes") (task_word script t ∷ []))
+wakes_short script (Some t) is there = omega (arith, task_short script t is there, two_words (codes "wakes") (task_word script t))
 
 reader_short : (value : ℕ) → length (spaced (reader_words value)) ≤ 7
 reader_short value = by_test (nat_eq value 1)
@@ -80,20 +86,25 @@ reader_short value = by_test (nat_eq value 1)
     by_test true = omega arith
     by_test false = omega arith
 
-path_short : (script : Script) (path : List (ℕ × ℕ)) → IsScript script → All (IsLinkIn script) path → length (spaced (map (link_word script) path)) ≤ 38 * length path
-path_short script [] is all = omega arith
-path_short script (link ∷ links) is all =
-    let one = All-head (IsLinkIn script) link links all in
-    let t : TaskId = record { 0 = link.0 } in
-    let l : LockId = record { 0 = link.1 } in
+-- words of at most 37 bytes each
+pub each_short : {A : Type 0} (word : A → List ℕ) (Is : A → Type 0) (xs : List A) → ((x : A) → Is x → length (word x) ≤ 37) → All Is xs → length (spaced (map word xs)) ≤ 38 * length xs
+each_short word Is [] short all = omega arith
+each_short word Is (x ∷ xs) short all =
     omega (
       arith,
-      task_short script t is one.0,
-      lock_short script l is one.1,
-      length-append (task_word script t) (32 ∷ lock_word script l),
-      spaced_cons (link_word script link) (map (link_word script) links),
-      path_short script links is (All-tail (IsLinkIn script) link links all),
+      short x (All-head Is x xs all),
+      spaced_cons (word x) (map word xs),
+      each_short word Is xs short (All-tail Is x xs all),
     )
+
+link_short : (script : Script) (link : ℕ × ℕ) → IsScript script → IsLinkIn script link → length (link_word script link) ≤ 37
+link_short script link is there =
+    let t : TaskId = record { 0 = link.0 } in
+    let l : LockId = record { 0 = link.1 } in
+    omega (arith, task_short script t is there.0, lock_short script l is there.1, length-append (task_word script t) (32 ∷ lock_word script l))
+
+path_short : (script : Script) (path : List (ℕ × ℕ)) → IsScript script → All (IsLinkIn script) path → length (spaced (map (link_word script) path)) ≤ 38 * length path
+path_short script path is all = each_short (link_word script) (IsLinkIn script) path (λ link. link_short script link is) all
 
 -- ---- what each kind tells, with at most 64 links
 
@@ -108,7 +119,7 @@ kind_short : (kind : EventKind) (value : ℕ) → length (kind_word kind value) 
 kind_short kinds.Wake value = wake_short value
 kind_short _ value = omega arith
 
-state_short : (state : TaskState) → length (spaced (state_word state ∷ [])) ≤ 2
+pub state_short : (state : TaskState) → length (spaced (state_word state ∷ [])) ≤ 2
 state_short states.Running = omega arith
 state_short _ = omega arith
 
@@ -194,24 +205,22 @@ reply_short (Some replies.Got) = omega arith
 reply_short (Some _) = omega arith
 
 head_short : (who did : List ℕ) → length who ≤ 16 → length did ≤ 8 → length (spaced (who ∷ did ∷ [])) ≤ 26
-head_short who did w d = omega (arith, w, d, spaced_cons who (did ∷ []), spaced_one did)
+head_short who did w d = omega (arith, w, d, two_words who did)
+
+pub line_length : (a b c d e : List ℕ) → length (a ++ b ++ c ++ d ++ e ++ 10 ∷ []) ≡ length a + length b + length c + length d + length e + 1
+line_length a b c d e =
+    omega (
+      arith,
+      length-append a b,
+      length-append (a ++ b) c,
+      length-append (a ++ b ++ c) d,
+      length-append (a ++ b ++ c ++ d) e,
+      length-append (a ++ b ++ c ++ d ++ e) (10 ∷ []),
+    )
 
 joined : (number head told boost answer : List ℕ) → length number ≤ 20 → length head ≤ 26 → length told ≤ 38 * 64 → length boost ≤ 21 → length answer ≤ 15
     → length (number ++ head ++ told ++ boost ++ answer ++ 10 ∷ []) < 4096
-joined number head told boost answer a b c d e =
-    omega (
-      arith,
-      a,
-      b,
-      c,
-      d,
-      e,
-      length-append number head,
-      length-append (number ++ head) told,
-      length-append (number ++ head ++ told) boost,
-      length-append (number ++ head ++ told ++ boost) answer,
-      length-append (number ++ head ++ told ++ boost ++ answer) (10 ∷ []),
-    )
+joined number head told boost answer a b c d e = omega (arith, a, b, c, d, e, line_length number head told boost answer)
 
 -- a well formed entry's line is shorter than 4,096 bytes
 pub line_short : (script : Script) (n : Entry) → IsScript script → IsWellFormed script n → length (line_of script n) < 4096

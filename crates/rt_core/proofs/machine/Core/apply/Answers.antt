@@ -130,8 +130,8 @@ pub returns-clause-local : goal.returns-clause-local
 returns-clause-local c =
     let lawful = subst (λ (m : Made). IsLawful m.state m.made) c.self.view_is c.self.invariant.lawful in
     λ s made lawful_there agree.
-      subst (λ (left : State). AgreeOn c.args.e.now left (state_after s c.args.e.now)) (sym (returns-clause-state c))
-      (effect c.args.self.now.state s c.args.self.now.made made c.args.e.now.task c.args.e.now lawful lawful_there c.requires.next agree)
+    subst (λ (left : State). AgreeOn c.args.e.now left (state_after s c.args.e.now)) (sym (returns-clause-state c))
+    (effect c.args.self.now.state s c.args.self.now.made made c.args.e.now.task c.args.e.now lawful lawful_there c.requires.next agree)
 
 pub returns-clause-script : goal.returns-clause-script
 returns-clause-script c = λ script is. subst (IsOf script) (sym (returns-clause-state c)) (IsOf-after script c.args.self.now.state c.args.e.now is)

@@ -11,6 +11,7 @@ pub mod WrittenCalls
 pub mod WrittenLines
 pub mod WrittenLocks
 pub mod WrittenNames
+pub mod WrittenPlain
 pub mod WrittenSize
 pub mod WrittenStages
 pub mod WrittenWords

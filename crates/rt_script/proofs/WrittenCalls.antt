@@ -135,15 +135,17 @@ state_says p states.LockWait h = absurd (h refl)
 named_word : (s : Script) (t : TaskId) → IsScript s → t.0 < length s.tasks → is_word (task_line s t).name ≡ true
 named_word s t h within = word_of_name (task_line s t).name (task_fits s t h within).name
 
+-- a call that names a task alone
+task_says : (p s : Script) → IsScript s → HasAll p s → (t : TaskId) (word : List ℕ) (call : Call) → is_word word ≡ true → t.0 < length s.tasks
+    → ((task : List ℕ) → goes_on true (Some keywords.Call) (task ∷ on_task s word t) ≡ true) → (task_named p (task_line s t).name ≡ Some t → call_in p (on_task s word t) ≡ Ok call) → Says p (on_task s word t) call
+task_says p s h has t word call plain within form gives =
+    record { plain = both _ _ plain (both _ _ (named_word s t h within) refl); few = refl; form = form; gives = gives (task_is_known p s h.names t within has.names) }
+
 wake_says : (p s : Script) → IsScript s → HasAll p s → (t : TaskId) → t.0 < length s.tasks → Says p (on_task s (codes "wake") t) (calls.Wake t)
-wake_says p s h has t within =
-    let known : task_named p (task_line s t).name ≡ Some t = task_is_known p s h.names t within has.names in
-    record { plain = both _ _ refl (both _ _ (named_word s t h within) refl); few = refl; form = λ task. refl; gives = rw known refl }
+wake_says p s h has t within = task_says p s h has t (codes "wake") (calls.Wake t) refl within (λ task. refl) (λ known. rw known refl)
 
 signal_says : (p s : Script) → IsScript s → HasAll p s → (t : TaskId) → t.0 < length s.tasks → Says p (on_task s (codes "signal") t) (calls.Signal t)
-signal_says p s h has t within =
-    let known : task_named p (task_line s t).name ≡ Some t = task_is_known p s h.names t within has.names in
-    record { plain = both _ _ refl (both _ _ (named_word s t h within) refl); few = refl; form = λ task. refl; gives = rw known refl }
+signal_says p s h has t within = task_says p s h has t (codes "signal") (calls.Signal t) refl within (λ task. refl) (λ known. rw known refl)
 
 prio_says : (p s : Script) → IsScript s → HasAll p s → (t : TaskId) (prio : ℕ) → t.0 < length s.tasks → prio ≤ 139 → Says p (on_task s (codes "setprio") t ++ decimal prio ∷ []) (calls.SetPrio t prio)
 prio_says p s h has t prio within small =

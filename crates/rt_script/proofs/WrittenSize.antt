@@ -9,12 +9,11 @@ use Rattle.std.proofs.lemmas.List.Folds.{list_all-append}
 use Rattle.std.proofs.lemmas.List.Sums.{sum-map, sum_by-cons, length-filter, count_by-le-length}
 use Rattle.rt_base.specs.declared.call.Call.{Call}
 use Rattle.rt_base.specs.declared.id.TaskId.{TaskId}
-use Rattle.rt_base.specs.declared.kind.Kind.{Kind}
-use Rattle.rt_base.specs.declared.kind.Kind.TheVariants as kinds
 use Rattle.rt_base.specs.Script.{Script, TaskLine, LockLine, task_line, IsScript, IsTaskOf, IsLockWithin, IsCallOf}
 use Rattle.rt_script.specs.Canonical.{kind_word, call_words, cpus_text, task_text, lock_text, call_text, calls_text, pick_text, lined_locks, with_line_feed, canonical_lines, canonical}
 use Rattle.rt_script.specs.Words.{is_printable}
-use Rattle.rt_script.proofs.WrittenWords.{left, right, both, is_word, line_of, word_of_name, word_of_number, printable_line, length_line}
+use Rattle.rt_script.proofs.WrittenWords.{left, right, both, is_word, line_of, printable_line, length_line}
+use Rattle.rt_script.proofs.WrittenPlain.{cpus_plain, task_plain, lock_plain, call_plain, pick_plain}
 use Rattle.rt_script.proofs.WrittenCalls.{Says, task_fits, call_says}
 use Rattle.rt_script.proofs.WrittenLocks.{has_line}
 
@@ -23,10 +22,6 @@ use Rattle.rt_script.proofs.WrittenLocks.{has_line}
 -- a line of printable characters, of at most 101
 abbrev pub is_line : List ℕ → Bool
 is_line line = list_all is_printable line && leb (length line) 101
-
-every : {X : Type 0} (P : X → Type 0) (p : X → Bool) (xs : List X) → ((x : X) → P x → p x ≡ true) → All P xs → list_all p xs ≡ true
-every P p [] h all = refl
-every P p (x ∷ xs) h all = both _ _ (h x (All-head P x xs all)) (every P p xs h (All-tail P x xs all))
 
 every_mapped : {X Y : Type 0} (P : X → Type 0) (p : Y → Bool) (f : X → Y) (xs : List X) → ((x : X) → P x → p (f x) ≡ true) → All P xs → list_all p (map f xs) ≡ true
 every_mapped P p f [] h all = refl
@@ -45,32 +40,24 @@ of_words : (first : List ℕ) (words : List (List ℕ)) → list_all is_word (fi
 of_words first words e few = both _ _ (printable_line first words e) (le-leb (length (line_of first words)) 101 (omega (arith, length_line first words e)))
 
 cpus_line : (cpus : ℕ) → cpus ≤ 8 → is_line (cpus_text cpus) ≡ true
-cpus_line cpus few = of_words (codes "cpus") (decimal cpus ∷ []) (both _ _ refl (both _ _ (word_of_number cpus (omega arith)) refl)) (omega arith)
+cpus_line cpus few = of_words (codes "cpus") (decimal cpus ∷ []) (cpus_plain cpus few) (omega arith)
 
 task_line_fits : (s : Script) → s.cpus ≤ 8 → (t : TaskLine) → IsTaskOf s t → is_line (task_text t) ≡ true
-task_line_fits s few t fits = of_words (codes "task") (t.name ∷ decimal t.own ∷ decimal t.cpu.0 ∷ [])
-    (both _ _ refl (both _ _ (word_of_name t.name fits.name) (both _ _ (word_of_number t.own (omega (arith, fits.own))) (both _ _ (word_of_number t.cpu.0 (omega (arith, fits.cpu))) refl)))) (omega arith)
-
-kind_plain : (kind : Kind) → is_word (kind_word kind) ≡ true
-kind_plain kinds.Mutex = refl
-kind_plain kinds.Spin = refl
-kind_plain kinds.RwLock = refl
-kind_plain kinds.RwSem = refl
-kind_plain kinds.Local = refl
+task_line_fits s few t fits = of_words (codes "task") (t.name ∷ decimal t.own ∷ decimal t.cpu.0 ∷ []) (task_plain s t fits few) (omega arith)
 
 lock_line_fits : (cpus : ℕ) (l : LockLine) → IsLockWithin cpus l → is_line (lock_text l) ≡ true
-lock_line_fits cpus l fits = of_words (codes "lock") (l.name ∷ kind_word l.kind ∷ []) (both _ _ refl (both _ _ (word_of_name l.name fits.name) (both _ _ (kind_plain l.kind) refl))) (omega arith)
+lock_line_fits cpus l fits = of_words (codes "lock") (l.name ∷ kind_word l.kind ∷ []) (lock_plain l.name l.kind fits.name) (omega arith)
 
 call_line_fits : (s : Script) → IsScript s → (t : TaskLine) → IsTaskOf s t → (call : Call) → IsCallOf s call → is_line (call_text s t call) ≡ true
 call_line_fits s h t fits call is =
     let says : Says s (call_words s call) call = call_says s s h (record { cpus = refl; names = refl; locks = refl }) call is in
-    of_words (codes "call") (t.name ∷ call_words s call) (both _ _ refl (both _ _ (word_of_name t.name fits.name) says.plain)) (omega (arith, leb-true (length (call_words s call)) 4 says.few))
+    of_words (codes "call") (t.name ∷ call_words s call) (call_plain t.name (call_words s call) fits.name says.plain) (omega (arith, leb-true (length (call_words s call)) 4 says.few))
 
 task_calls_fit : (s : Script) → IsScript s → (t : TaskLine) → IsTaskOf s t → list_all is_line (calls_text s t) ≡ true
 task_calls_fit s h t fits = every_mapped (IsCallOf s) is_line (call_text s t) t.calls (call_line_fits s h t fits) fits.calls
 
 pick_line_fits : (s : Script) → IsScript s → (t : TaskId) → t.0 < length s.tasks → is_line (pick_text s t) ≡ true
-pick_line_fits s h t in' = of_words (codes "pick") ((task_line s t).name ∷ []) (both _ _ refl (both _ _ (word_of_name (task_line s t).name (task_fits s t h in').name) refl)) (omega arith)
+pick_line_fits s h t in' = of_words (codes "pick") ((task_line s t).name ∷ []) (pick_plain (task_line s t).name (task_fits s t h in').name) (omega arith)
 
 -- ---- all lines
 

@@ -1,7 +1,6 @@
 -- The lines of each part of a written script lead to the script with that part.
 use Rattle.std.proofs.Common.{◌≡◌, ℕ, ◌+◌, ◌<◌, ◌≤◌, true, false, List, [], ◌∷◌, ◌++◌, length, map, flat_map, get_or, ltb, leb, All, Some, None, Ok, refl, sym, ap, subst, ◌∙◌, arith, append-nil, append_assoc, length-append}
 use Rattle.std.specs.Prelude.{codes, decimal, sum_by}
-use Rattle.std.specs.List.{list_all}
 use Rattle.std.proofs.lemmas.Bool.{lt-ltb, le-leb}
 use Rattle.std.proofs.lemmas.Grind.{flat_map-append}
 use Rattle.std.proofs.lemmas.List.{map-append, length-map}
@@ -21,7 +20,8 @@ use Rattle.rt_script.specs.Canonical.{kind_word, call_words, cpus_text, task_tex
 use Rattle.rt_script.specs.Grammar.{SoFar, cpu_of, kind_of, goes_on, call_in, after_cpus, after_task, after_lock, after_call, after_pick}
 use Rattle.rt_script.specs.Names.{named, task_named}
 use Rattle.rt_script.specs.Words.{number_upto}
-use Rattle.rt_script.proofs.WrittenWords.{is_word, both, word_of_name, word_of_number, number_read}
+use Rattle.rt_script.proofs.WrittenWords.{number_read}
+use Rattle.rt_script.proofs.WrittenPlain.{cpus_plain, task_plain, lock_plain, call_plain, pick_plain}
 use Rattle.rt_script.proofs.WrittenLines.{Reads, reads_line, reads_each}
 use Rattle.rt_script.proofs.WrittenNames.{name_of, uncalled, uncalled-names, length-middle, the_task_line, the_lock_line, task_is_new, lock_is_new, task_is_known}
 use Rattle.rt_script.proofs.WrittenCalls.{HasAll, Says, task_fits, call_says, cpu_read}
@@ -46,7 +46,7 @@ cpus_made cpus some few =
 
 pub reads_cpus : (s : Script) → IsScript s → Reads (record { script = no_lines; begun = false }) (cpus_text s.cpus ∷ []) (begun (empty s.cpus))
 reads_cpus s h = reads_line (record { script = no_lines; begun = false }) (empty s.cpus) (codes "cpus") (decimal s.cpus ∷ [])
-    (record { plain = both _ _ refl (both _ _ (word_of_number s.cpus (omega (arith, h.cpus.1))) refl); kept = refl; not_go = refl; not_end = λ rest. refl; form = refl })
+    (record { plain = cpus_plain s.cpus h.cpus.1; kept = refl; not_go = refl; not_end = λ rest. refl; form = refl })
     (cpus_made s.cpus h.cpus.0 h.cpus.1)
 
 -- ---- tasks
@@ -68,10 +68,6 @@ middle_task : (s : Script) → IsScript s → (front : List TaskLine) (x : TaskL
 middle_task s h front x back e =
     let within : length front < length s.tasks = rw e (length-middle front x back) in
     subst (IsTaskOf s) (the_task_line s front x back e) (task_fits s (record { 0 = length front }) h within)
-
-task_plain : (s : Script) (x : TaskLine) → IsTaskOf s x → s.cpus ≤ 8 → list_all is_word (codes "task" ∷ x.name ∷ decimal x.own ∷ decimal x.cpu.0 ∷ []) ≡ true
-task_plain s x fits few =
-    both _ _ refl (both _ _ (word_of_name x.name fits.name) (both _ _ (word_of_number x.own (omega (arith, fits.own))) (both _ _ (word_of_number x.cpu.0 (omega (arith, fits.cpu))) refl)))
 
 reads_task : (s : Script) → IsScript s → (front : List TaskLine) (x : TaskLine) (back : List TaskLine) → s.tasks ≡ front ++ x ∷ back → Reads (begun (of_tasks s front)) (task_text x ∷ []) (begun (of_tasks s (front ++ x ∷ [])))
 reads_task s h front x back e =
@@ -107,16 +103,6 @@ lock_made p name kind shape new room =
     kind_read kinds.RwLock = refl
     kind_read kinds.RwSem = refl
     kind_read kinds.Local = refl
-
-lock_plain : (name : List ℕ) (kind : Kind) → is_name name ≡ true → list_all is_word (codes "lock" ∷ name ∷ kind_word kind ∷ []) ≡ true
-lock_plain name kind shape = both _ _ refl (both _ _ (word_of_name name shape) (both _ _ (plain kind) refl))
-  where
-    plain : (kind : Kind) → is_word (kind_word kind) ≡ true
-    plain kinds.Mutex = refl
-    plain kinds.Spin = refl
-    plain kinds.RwLock = refl
-    plain kinds.RwSem = refl
-    plain kinds.Local = refl
 
 lock_form : (name : List ℕ) (kind : Kind) → goes_on true (Some keywords.Lock) (name ∷ kind_word kind ∷ []) ≡ true
 lock_form name kinds.Mutex = refl
@@ -228,7 +214,7 @@ reads_call s h front x back e done c rest calls =
     let named : task_named p x.name ≡ Some t = subst (λ (line : TaskLine). task_named p line.name ≡ Some t) (the_task_line s front x back e) known in
     let made : after_call p (x.name ∷ call_words s c) ≡ Ok (with_call p t c) = call_made p x.name (call_words s c) t c named says.gives (still_room s h front x back e done c rest calls) in
     reads_line (begun p) (of_calls s (amid front x (done ++ c ∷ []) back)) (codes "call") (x.name ∷ call_words s c)
-    (record { plain = both _ _ refl (both _ _ (word_of_name x.name fits.name) says.plain); kept = refl; not_go = refl; not_end = λ rest. refl; form = says.form x.name })
+    (record { plain = call_plain x.name (call_words s c) fits.name says.plain; kept = refl; not_go = refl; not_end = λ rest. refl; form = says.form x.name })
     (made ∙ ap Ok (call_added s front x done back c))
   where
     middle : {X : Type 0} (P : X → Type 0) (front : List X) (x : X) (back : List X) → All P (front ++ x ∷ back) → P x
@@ -265,7 +251,7 @@ reads_pick s h front t back e =
     let known : task_named p (task_line s t).name ≡ Some t = task_is_known p s h.names t in' refl in
     let room : length front < 65536 = omega (arith, length-middle front t back, ap length e, h.picks) in
     reads_line (begun p) (of_picks s (front ++ t ∷ [])) (codes "pick") ((task_line s t).name ∷ [])
-    (record { plain = both _ _ refl (both _ _ (word_of_name (task_line s t).name (task_fits s t h in').name) refl); kept = refl; not_go = refl; not_end = λ rest. refl; form = refl })
+    (record { plain = pick_plain (task_line s t).name (task_fits s t h in').name; kept = refl; not_go = refl; not_end = λ rest. refl; form = refl })
     (pick_made p (task_line s t).name t known room)
 
 pub reads_picks : (s : Script) → IsScript s → Reads (begun (of_picks s [])) (flat_map (λ t. pick_text s t ∷ []) s.picks) (begun (of_picks s s.picks))

@@ -1,5 +1,5 @@
 -- Words of scripts, journals and reports.
-use Rattle.std.specs.Prelude.{ℕ, List, ◌∷◌, ◌++◌, codes, flat_map}
+use Rattle.std.specs.Prelude.{ℕ, List, ◌∷◌, codes, flat_map}
 use Rattle.rt_base.specs.declared.state.TaskState.{TaskState}
 use Rattle.rt_base.specs.declared.state.TaskState.TheVariants as states
 

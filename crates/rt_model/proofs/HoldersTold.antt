@@ -160,9 +160,9 @@ module _ (s : State) (made : ℕ) (events : List Event) (lawful : IsLawful s mad
     told = holder-told;
     alone = λ front rest e l is named gets. holder-told front (e ∷ rest) l is ∙ acquires-free (after s front) e.task e l (made-next front rest e is) named gets;
     own = λ front rest e l is named gone.
-      let all = front-run front (e ∷ rest) is in
-      let lawful_there = lawful-after s made front lawful (run-front s front (e ∷ rest) all) in
-      holder-told front (e ∷ rest) l is ∙ releases-own (after s front) _ e.task e l lawful_there (made-next front rest e is) named gone;
+        let all = front-run front (e ∷ rest) is in
+        let lawful_there = lawful-after s made front lawful (run-front s front (e ∷ rest) all) in
+        holder-told front (e ∷ rest) l is ∙ releases-own (after s front) _ e.task e l lawful_there (made-next front rest e is) named gone;
   }
 
   pub deadlocks-law : DeadlocksLaw events

@@ -24,7 +24,7 @@ pub lines_of-lines : (lines : List (List ℕ)) → list_all (list_all is_printab
 lines_of-lines [] e = refl
 lines_of-lines (l ∷ ls) e =
     rw (append_assoc l (10 ∷ []) (flat_map with_line_feed ls)) (
-      slice_split_at (λ b. b == 10) l 10 (flat_map with_line_feed ls) (one_line l (left _ _ e)) refl ∙ ap (λ rest. l ∷ rest) (lines_of-lines ls (right _ _ e))
+    slice_split_at (λ b. b == 10) l 10 (flat_map with_line_feed ls) (one_line l (left _ _ e)) refl ∙ ap (λ rest. l ∷ rest) (lines_of-lines ls (right _ _ e))
     )
 
 -- ---- lines, one after the other

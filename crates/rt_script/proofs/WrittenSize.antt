@@ -94,9 +94,23 @@ few_lines s h =
     let locks : List (List ℕ) = map lock_text (lined_locks s) in
     let calls : List (List ℕ) = flat_map (calls_text s) s.tasks in
     let picks : List (List ℕ) = map (pick_text s) s.picks in
-    omega (arith, length-append (head ++ locks ++ calls ++ picks) (codes "go" ∷ []), length-append (head ++ locks ++ calls) picks, length-append (head ++ locks) calls, length-append head locks,
-    length-map s.tasks task_text, length-map (lined_locks s) lock_text, length-map s.picks (pick_text s), filtered has_line s.locks,
-    calls_counted s s.tasks, sum-map (λ (t : TaskLine). length t.calls) s.tasks, h.tasks, h.locks, h.calls, h.picks)
+    omega (
+      arith,
+      length-append (head ++ locks ++ calls ++ picks) (codes "go" ∷ []),
+      length-append (head ++ locks ++ calls) picks,
+      length-append (head ++ locks) calls,
+      length-append head locks,
+      length-map s.tasks task_text,
+      length-map (lined_locks s) lock_text,
+      length-map s.picks (pick_text s),
+      filtered has_line s.locks,
+      calls_counted s s.tasks,
+      sum-map (λ (t : TaskLine). length t.calls) s.tasks,
+      h.tasks,
+      h.locks,
+      h.calls,
+      h.picks,
+    )
 
 pub short : (s : Script) → IsScript s → length (canonical s) < 4294967295
 short s h = omega (arith, text_fits (canonical_lines s) (lines_fit s h), few_lines s h)

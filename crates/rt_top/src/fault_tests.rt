@@ -140,7 +140,9 @@ fn each_write_fails(rt: HostRuntime) -> Result<(), Fail> {
         for fail in 0..4 {
             let (status, bytes) = replay_with_faults(&rt, alloc, text, NEVER, fail)?;
             assert_eq!(rt; status, 7);
-            assert!(rt; whole.starts_with(&bytes) && (bytes.len() > least || fail == 0 && bytes.is_empty()));
+            assert!(rt;
+                whole.starts_with(&bytes) && (bytes.len() > least || fail == 0 && bytes.is_empty())
+            );
             least = bytes.len();
         }
         let (status, bytes) = replay_with_faults(&rt, alloc, text, NEVER, 4)?;

@@ -178,15 +178,3 @@ pub record IsScript (script : Script) : Type 0 where
   pub each_pick : All (λ (t : TaskId). t.0 < length script.tasks) script.picks
   pub names : HasOwnNames script
   pub whole : HasWholeLocks script
-
--- the call takes or releases a mutex
-abbrev pub IsMutexCall : Call → Type 0
-IsMutexCall (Lock l) = Unit {0}
-IsMutexCall (Unlock l) = Unit {0}
-IsMutexCall _ = ⊥
-
--- the script has one lock at most, a mutex, and its tasks only take and release it
-pub record HasOneMutex (script : Script) : Type 0 where
-  pub one : length script.locks ≤ 1
-  pub locks : All (λ (l : LockLine). l.kind ≡ kinds.Mutex) script.locks
-  pub calls : All (λ (t : TaskLine). All IsMutexCall t.calls) script.tasks

@@ -1,7 +1,8 @@
 // What an event touches, and whether two events touch an object together.
 ghost use Rattle.std.specs.Prelude.{◌≡◌, ◌↔◌, Bool, true, false, None, List, [], ◌++◌, map, IsTrue};
 ghost use Rattle.std.specs.List.{list_any};
-ghost use Rattle.rt_model.specs.Footprint.{same_object, owner_parts, reader_parts, tasks_of, along, looked_at, besides, footprint, touches};
+ghost use Rattle.rt_model.specs.Footprint.{same_object, owner_parts, reader_parts, tasks_of, along, objects_of, footprint, touches};
+ghost use Rattle.rt_model.specs.Dispatch.{touched, busy_touched};
 ghost use Rattle.rt_model.specs.declared.obj.Obj.{Obj};
 ghost use Rattle.rt_events.specs.Touched.{path_tasks, Tells};
 
@@ -53,7 +54,7 @@ fn any_object<F: Fn(Obj) -> bool>(e: &Event, test: &F) -> bool
 // Whether some object passes a test, of those that an event touches besides its thread.
 fn any_besides<F: Fn(Obj) -> bool>(e: &Event, test: &F) -> bool
     requires { F.IsAlwaysCallable test.now }
-    ensures { (passes : Obj → Bool) → Tells (F.post test.now) passes → result ≡ list_any passes (besides e.now.kind e.now) }
+    ensures { (passes : Obj → Bool) → Tells (F.post test.now) passes → result ≡ list_any passes (objects_of (touched e.now.kind e.now)) }
 {
     let own = Some(e.task);
     match e.kind {
@@ -83,16 +84,16 @@ fn any_besides<F: Fn(Obj) -> bool>(e: &Event, test: &F) -> bool
 // Whether a task of a walk passes a test: its cursor, the lock's owner, or the one that is woken.
 fn any_walked<F: Fn(Obj) -> bool>(e: &Event, test: &F) -> bool
     requires { F.IsAlwaysCallable test.now }
-    ensures { (passes : Obj → Bool) → Tells (F.post test.now) passes → result ≡ list_any passes (tasks_of e.now.other ++ tasks_of e.now.owner ++ tasks_of e.now.woken) }
+    ensures { (passes : Obj → Bool) → Tells (F.post test.now) passes → result ≡ list_any passes (tasks_of e.now.owner ++ (tasks_of e.now.other ++ tasks_of e.now.woken)) }
 {
-    any_task(e.other, test) || any_task(e.owner, test) || any_task(e.woken, test)
+    any_task(e.owner, test) || any_task(e.other, test) || any_task(e.woken, test)
 }
 
 // Whether what a busy call looks at passes a test: the reader part where it reads; else the owner part,
 // and where that has no owner its own task.
 fn any_looked_at<F: Fn(Obj) -> bool>(e: &Event, test: &F) -> bool
     requires { F.IsAlwaysCallable test.now }
-    ensures { (passes : Obj → Bool) → Tells (F.post test.now) passes → result ≡ list_any passes (looked_at e.now.value e.now) }
+    ensures { (passes : Obj → Bool) → Tells (F.post test.now) passes → result ≡ list_any passes (objects_of (busy_touched e.now.value e.now)) }
 {
     if e.value > 0 {
         any_reader_part(e.lock, test)

@@ -5,7 +5,7 @@ use Rattle.std.proofs.lemmas.List.Elements.{All-head, All-tail, All-cons, All-ni
 use Rattle.std.proofs.lemmas.List.{append-nil, drop_all, take_all}
 use Rattle.rt_base.specs.declared.id.LockId.{LockId}
 use Rattle.rt_base.specs.declared.id.TaskId.{TaskId}
-use Rattle.rt_model.specs.After.{update, at_lock, at_task}
+use Rattle.rt_model.specs.StateAfter.{update, at_lock, at_task}
 
 -- ---- reading
 

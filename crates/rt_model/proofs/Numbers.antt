@@ -4,7 +4,7 @@ use Rattle.std.specs.Prelude.{nat_eq}
 use Rattle.std.proofs.lemmas.Bool.Decides.{nat_tests}
 use Rattle.rt_base.specs.declared.id.LockId.{LockId}
 use Rattle.rt_base.specs.declared.id.TaskId.{TaskId}
-use Rattle.rt_model.specs.Laws.{owned_by}
+use Rattle.rt_model.specs.laws.Owners.{owned_by}
 
 -- two numbers that pass the test are one
 pub same_number : (i j : ℕ) → nat_eq i j ≡ true → i ≡ j

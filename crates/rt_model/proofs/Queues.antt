@@ -1,16 +1,17 @@
 -- The rows of a lock, as one comes or goes, and who may take the lock.
-use Rattle.std.proofs.Common.{◌≡◌, ◌≢◌, suc, true, false, cond, not, List, [], ◌∷◌, refl, sym, ap, arith, Option, Some, None, All, IfSome, subst, ℕ, ◌<◌, Bool, unwrap_or}
+use Rattle.std.proofs.Common.{◌≡◌, ◌≢◌, suc, true, false, cond, not, List, [], ◌∷◌, refl, sym, ap, ◌∙◌, arith, Option, Some, None, All, IfSome, subst, ℕ, ◌<◌, ◌≤◌, min, Bool, unwrap_or}
 use Rattle.std.specs.Prelude.{AllPairs, slice_index_or, nat_eq, option_map, nat_lt, is_some, find, filter}
 use Rattle.std.proofs.lemmas.Bool.{cond_both, not-true, not-false}
 use Rattle.std.proofs.lemmas.Bool.Decides.{nat_tests}
 use Rattle.std.proofs.lemmas.List.Elements.{All-nil, All-head, All-tail, All-cons}
-use Rattle.std.proofs.lemmas.List.Kept.{AllPairs-cons}
+use Rattle.std.proofs.lemmas.List.Kept.{AllPairs-cons, AllPairs-filter}
 use Rattle.rt_base.specs.declared.id.TaskId.{TaskId}
 use Rattle.rt_base.specs.declared.kind.Kind.{Kind}
 use Rattle.rt_model.specs.declared.row.Row.{Row}
-use Rattle.rt_model.specs.Rows.{top_waiter, is_of, row_of, queued_key, goes_before, insert_row, without, has_rows, may_take, asked_key, reason_among, reason_before}
-use Rattle.rt_model.specs.Laws.{IsAhead}
+use Rattle.rt_model.specs.Rows.{top_waiter, top_key, better_of, is_of, row_of, queued_key, goes_before, insert_row, without, has_rows, can_take, asked_key, reason_among, reason_before}
+use Rattle.rt_model.specs.laws.Rows.{IsAhead, IsQueue}
 use Rattle.rt_model.specs.Parts.{OwnerPart, TaskPart, effective_of}
+use Rattle.rt_model.proofs.Numbers.{other_number}
 use Rattle.rt_model.specs.declared.reason.Reason.{Reason}
 use Rattle.rt_model.specs.declared.reason.Reason.TheVariants as reasons
 
@@ -108,25 +109,70 @@ row_of-without_other t u (row ∷ rows) ne =
 -- ---- the top
 
 -- the task of a row, and of the top one
-abbrev pub of_row : Row → TaskId
-of_row row = record { 0 = row.who }
-
-abbrev pub top_task : List Row → Option TaskId
-top_task rows = option_map of_row (top_waiter rows)
 
 -- the bit that says that nobody is queued
 pub no_rows : (rows : List Row) → has_rows rows ≡ false → rows ≡ []
 no_rows [] is = refl
 no_rows (row ∷ rows) is = cc
 
--- a row that doesn't go before the top waiter leaves it
-pub top-insert : (row top : Row) (rows : List Row) → goes_before row top ≡ false → top_waiter (insert_row row (top ∷ rows)) ≡ Some top
-top-insert row top rows is = rw is refl
-
 -- what holds of each row holds of the top waiter
+better-holds : (P : Row → Type 0) (row : Row) (other : Option Row) → P row → IfSome other P → P (better_of row other)
+better-holds P row None here rest = here
+better-holds P row (Some other) here rest = cond_both (goes_before other row) other row P (λ is. rest) (λ is. here)
+
 pub top-holds : (P : Row → Type 0) (rows : List Row) → All P rows → IfSome (top_waiter rows) P
 top-holds P [] all = tt
-top-holds P (row ∷ rows) all = All-head P row rows all
+top-holds P (row ∷ rows) all = better-holds P row (top_waiter rows) (All-head P row rows all) (top-holds P rows (All-tail P row rows all))
+
+-- the top key, in whatever order they stand
+abbrev pub key_with : ℕ → Option ℕ → ℕ
+key_with key None = key
+key_with key (Some other) = min key other
+
+better-key : (row : Row) (other : Option Row) → (better_of row other).key ≡ key_with row.key (option_map (λ (r : Row). r.key) other)
+better-key row None = refl
+better-key row (Some other) = cond_both (goes_before other row) other row (λ (r : Row). r.key ≡ min row.key other.key) (λ is. greater is) (λ is. less is)
+  where
+    greater : goes_before other row ≡ true → other.key ≡ min row.key other.key
+    greater is = let le : other.key ≤ row.key = grind (arith, nat_tests) in omega (arith, le)
+
+    less : goes_before other row ≡ false → row.key ≡ min row.key other.key
+    less is = let le : row.key ≤ other.key = grind (arith, nat_tests) in omega (arith, le)
+
+pub top_key-cons : (row : Row) (rows : List Row) → top_key (row ∷ rows) ≡ Some (key_with row.key (top_key rows))
+top_key-cons row rows = ap Some (better-key row (top_waiter rows))
+
+key_with-swap : (j k : ℕ) (o : Option ℕ) → key_with j (Some (key_with k o)) ≡ key_with k (Some (key_with j o))
+key_with-swap j k None = omega arith
+key_with-swap j k (Some o) = omega arith
+
+pub top_key-insert : (row : Row) (rows : List Row) → top_key (insert_row row rows) ≡ Some (key_with row.key (top_key rows))
+top_key-insert row [] = refl
+top_key-insert row (other ∷ rows) =
+    cond_both (goes_before row other) (row ∷ other ∷ rows) (other ∷ insert_row row rows) (λ (rs : List Row). top_key rs ≡ Some (key_with row.key (top_key (other ∷ rows))))
+    (λ is. top_key-cons row (other ∷ rows))
+    (λ is. top_key-cons other (insert_row row rows) ∙ (ap (λ (o : Option ℕ). Some (key_with other.key o)) (top_key-insert row rows)
+    ∙ (ap Some (key_with-swap other.key row.key (top_key rows)) ∙ ap (λ (o : Option ℕ). Some (key_with row.key o)) (sym (top_key-cons other rows)))))
+
+-- of rows in order it is the first
+abbrev pub first_row : List Row → Option Row
+first_row [] = None
+first_row (row ∷ rows) = Some row
+
+not_before : (row other : Row) → goes_before row other ≡ true → goes_before other row ≡ false
+not_before row other is = grind (arith, nat_tests)
+
+better-ahead : (row : Row) (other : Option Row) → IfSome other (IsAhead row) → better_of row other ≡ row
+better-ahead row None ahead = refl
+better-ahead row (Some other) ahead = rw (not_before row other ahead.order) refl
+
+pub top-first : (rows : List Row) → AllPairs IsAhead rows → top_waiter rows ≡ first_row rows
+top-first [] order = refl
+top-first (row ∷ rows) order = ap Some (better-ahead row (top_waiter rows) (top-holds (IsAhead row) rows (AllPairs-head IsAhead row rows order)))
+
+-- a row that doesn't go before the top waiter leaves it
+pub top-insert : (row top : Row) (rows : List Row) → goes_before row top ≡ false → All (IsApart row) (top ∷ rows) → AllPairs IsAhead (top ∷ rows) → top_waiter (insert_row row (top ∷ rows)) ≡ Some top
+top-insert row top rows is apart order = top-first (insert_row row (top ∷ rows)) (insert_order row (top ∷ rows) apart order) ∙ rw is refl
 
 pub top-at : (P : Row → Type 0) (rows : List Row) (row : Row) → All P rows → top_waiter rows ≡ Some row → P row
 top-at P rows row all is = subst (λ (o : Option Row). IfSome o P) is (top-holds P rows all)
@@ -139,21 +185,24 @@ find-holds P test (row ∷ rows) all =
     (λ _. All-head P row rows all)
     (λ _. find-holds P test rows (All-tail P row rows all))
 
-pub find-top : (test : Row → Bool) (rows : List Row) → find test rows ≡ top_waiter (filter test rows)
-find-top test [] = refl
-find-top test (row ∷ rows) = by_test (test row) (find-top test rows)
+find-first : (test : Row → Bool) (rows : List Row) → find test rows ≡ first_row (filter test rows)
+find-first test [] = refl
+find-first test (row ∷ rows) = by_test (test row) (find-first test rows)
   where
-    by_test : (b : Bool) → find test rows ≡ top_waiter (filter test rows) → cond b (Some row) (find test rows) ≡ top_waiter (cond b (row ∷ filter test rows) (filter test rows))
+    by_test : (b : Bool) → find test rows ≡ first_row (filter test rows) → cond b (Some row) (find test rows) ≡ first_row (cond b (row ∷ filter test rows) (filter test rows))
     by_test true later = refl
     by_test false later = later
+
+pub find-top : (test : Row → Bool) (rows : List Row) → AllPairs IsAhead rows → find test rows ≡ top_waiter (filter test rows)
+find-top test rows order = find-first test rows ∙ sym (top-first (filter test rows) (AllPairs-filter IsAhead test rows order))
 
 -- ---- who may take a lock
 
 -- a lock that may be taken has no owner
-pub unowned-may_take : (t : TaskId) (lock : OwnerPart) (task : TaskPart) → may_take t lock task ≡ true → lock.owner ≡ None
-unowned-may_take t lock task may = by_owner lock.owner may
+pub unowned-can_take : (t : TaskId) (kind : Kind) (lock : OwnerPart) (task : TaskPart) → can_take t kind lock task ≡ true → lock.owner ≡ None
+unowned-can_take t kind lock task may = by_owner lock.owner may
   where
-    by_owner : (owner : Option TaskId) → is_some (cond (is_some owner) None (reason_among t (asked_key t lock.rows task) lock.kind (top_waiter lock.rows))) ≡ true → owner ≡ None
+    by_owner : (owner : Option TaskId) → is_some (cond (is_some owner) None (reason_among t (asked_key t lock.rows task) kind (top_waiter lock.rows))) ≡ true → owner ≡ None
     by_owner None is = refl
     by_owner (Some o) is = cc
 
@@ -171,29 +220,37 @@ behind t key kind top is = by_tests (is_of t top) (nat_lt key top.key) _ refl re
     by_tests false false rest is_a is_b none = record { other = is_a; better = is_b }
 
 -- the reason that there isn't, where nobody owns the lock
-no_reason : (t : TaskId) (lock : OwnerPart) (task : TaskPart) → may_take t lock task ≡ false → lock.owner ≡ None → is_some (reason_among t (asked_key t lock.rows task) lock.kind (top_waiter lock.rows)) ≡ false
-no_reason t lock task may none =
-    subst (λ (o : Option TaskId). is_some (cond (is_some o) None (reason_among t (asked_key t lock.rows task) lock.kind (top_waiter lock.rows))) ≡ false) none may
+no_reason : (t : TaskId) (kind : Kind) (lock : OwnerPart) (task : TaskPart) → can_take t kind lock task ≡ false → lock.owner ≡ None → is_some (reason_among t (asked_key t lock.rows task) kind (top_waiter lock.rows)) ≡ false
+no_reason t kind lock task may none =
+    subst (λ (o : Option TaskId). is_some (cond (is_some o) None (reason_among t (asked_key t lock.rows task) kind (top_waiter lock.rows))) ≡ false) none may
 
 -- the top waiter of a lock that nobody owns may take it
-pub not_top : (t : TaskId) (lock : OwnerPart) (task : TaskPart) (row : Row) → may_take t lock task ≡ false → lock.owner ≡ None → top_waiter lock.rows ≡ Some row → is_of t row ≡ false
-not_top t lock task row may none top =
-    (behind t (asked_key t lock.rows task) lock.kind row
-    (subst (λ (o : Option Row). is_some (reason_among t (asked_key t lock.rows task) lock.kind o) ≡ false) top (no_reason t lock task may none))).other
+pub not_top : (t : TaskId) (kind : Kind) (lock : OwnerPart) (task : TaskPart) (row : Row) → can_take t kind lock task ≡ false → lock.owner ≡ None → top_waiter lock.rows ≡ Some row → is_of t row ≡ false
+not_top t kind lock task row may none top =
+    (behind t (asked_key t lock.rows task) kind row
+    (subst (λ (o : Option Row). is_some (reason_among t (asked_key t lock.rows task) kind o) ≡ false) top (no_reason t kind lock task may none))).other
 
 not_first : (key ticket : ℕ) (t : TaskId) (top : Row) → nat_lt key top.key ≡ false → top.ticket < ticket → goes_before (record { key = key; ticket = ticket; who = t.0 }) top ≡ false
 not_first key ticket t top better lt = grind (arith, nat_tests)
 
-behind_top : (t : TaskId) (key ticket : ℕ) (kind : Kind) (rows : List Row) → is_some (reason_among t key kind (top_waiter rows)) ≡ false → All (λ (r : Row). r.ticket < ticket) rows
-    → top_waiter (insert_row (record { key = key; ticket = ticket; who = t.0 }) rows) ≡ top_waiter rows
-behind_top t key ticket kind [] none all = absurd cc
-behind_top t key ticket kind (top ∷ rows) none all =
-    top-insert (record { key = key; ticket = ticket; who = t.0 }) top rows
-    (not_first key ticket t top (behind t key kind top none).better (All-head (λ (r : Row). r.ticket < ticket) top rows all))
+-- a new row is of another task than those queued, and has a new ticket
+pub apart : (t : TaskId) (key ticket : ℕ) (row : Row) → is_of t row ≡ false → row.ticket < ticket → IsApart (record { key = key; ticket = ticket; who = t.0 }) row
+apart t key ticket row other lt = record { task = λ same. absurd (other_number row.who t.0 other (sym same)); ticket = λ same. absurd (omega (arith, same)) }
 
--- a task that may not take a lock that nobody owns is queued behind the top waiter
-pub queued_behind : (t : TaskId) (lock : OwnerPart) (task : TaskPart) → may_take t lock task ≡ false → lock.owner ≡ None → queued_key t lock.rows ≡ None → All (λ (r : Row). r.ticket < lock.ticket) lock.rows
+after_top : (t : TaskId) (key ticket : ℕ) (kind : Kind) (rows : List Row) → is_some (reason_among t key kind (top_waiter rows)) ≡ false → All (λ (r : Row). r.ticket < ticket) rows
+    → All (IsApart (record { key = key; ticket = ticket; who = t.0 })) rows → AllPairs IsAhead rows → top_waiter (insert_row (record { key = key; ticket = ticket; who = t.0 }) rows) ≡ top_waiter rows
+after_top t key ticket kind [] none all apart order = absurd cc
+after_top t key ticket kind (top ∷ rows) none all apart order =
+    let first = top-first (top ∷ rows) order in
+    let may_not = subst (λ (o : Option Row). is_some (reason_among t key kind o) ≡ false) first none in
+    top-insert (record { key = key; ticket = ticket; who = t.0 }) top rows
+    (not_first key ticket t top (behind t key kind top may_not).better (All-head (λ (r : Row). r.ticket < ticket) top rows all)) apart order ∙ sym first
+
+-- a task that may not take a lock that nobody owns is queued after the top waiter
+pub queued_after : (t : TaskId) (kind : Kind) (lock : OwnerPart) (task : TaskPart) → can_take t kind lock task ≡ false → lock.owner ≡ None → queued_key t lock.rows ≡ None → IsQueue lock
     → top_waiter (insert_row (record { key = effective_of task; ticket = lock.ticket; who = t.0 }) lock.rows) ≡ top_waiter lock.rows
-queued_behind t lock task may none unqueued tickets =
-    behind_top t (effective_of task) lock.ticket lock.kind lock.rows
-    (subst (λ (o : Option ℕ). is_some (reason_among t (unwrap_or o (effective_of task)) lock.kind (top_waiter lock.rows)) ≡ false) unqueued (no_reason t lock task may none)) tickets
+queued_after t kind lock task may none unqueued queue =
+    let others = none_of t lock.rows unqueued in
+    after_top t (effective_of task) lock.ticket kind lock.rows
+    (subst (λ (o : Option ℕ). is_some (reason_among t (unwrap_or o (effective_of task)) kind (top_waiter lock.rows)) ≡ false) unqueued (no_reason t kind lock task may none)) queue.tickets
+    (λ k d lt. apart t (effective_of task) lock.ticket (slice_index_or lock.rows k d) (others k d lt) (queue.tickets k d lt)) queue.order

@@ -4,9 +4,9 @@ use Rattle.std.specs.List.{list_any}
 use Rattle.rt_base.specs.declared.id.LockId.{LockId}
 use Rattle.rt_base.specs.declared.id.TaskId.{TaskId}
 use Rattle.rt_model.specs.declared.event.Event.{Event}
-use Rattle.rt_model.specs.declared.event_kind.EventKind.{EventKind}
-use Rattle.rt_model.specs.declared.event_kind.EventKind.TheVariants as kinds
 use Rattle.rt_model.specs.declared.obj.Obj.{Obj}
+use Rattle.rt_model.specs.Effect.{Touched}
+use Rattle.rt_model.specs.Rules.{touched}
 use Rattle.rt_model.specs.declared.obj.Obj.TheVariants.{OwnerPart, ReaderPart, Task, Thread}
 
 -- the two are one object
@@ -17,7 +17,7 @@ same_object (Task t) (Task u) = nat_eq t.0 u.0
 same_object (Thread t) (Thread u) = nat_eq t.0 u.0
 same_object _ _ = false
 
--- the owner part, the reader part and the task of what an event names
+-- the owner part, the reader part and the task that a slot names
 abbrev pub owner_parts : Option LockId → List Obj
 owner_parts None = []
 owner_parts (Some l) = OwnerPart l ∷ []
@@ -35,46 +35,13 @@ abbrev pub along : List (ℕ × ℕ) → List Obj
 along [] = []
 along (link ∷ links) = OwnerPart (record { 0 = link.1 }) ∷ map (λ (pair : ℕ × ℕ). Task (record { 0 = pair.0 })) (link ∷ links)
 
--- a busy call looks at the reader part where it reads; else at the owner part, and where that has no owner at its own task
-abbrev pub looked_at : ℕ → Event → List Obj
-looked_at zero e = owner_parts e.lock ++ own_task e.owner
-  where
-    own_task : Option TaskId → List Obj
-    own_task None = Task e.task ∷ []
-    own_task (Some o) = []
-looked_at (suc n) e = reader_parts e.lock
-
--- what an event of this kind touches besides its thread
-abbrev pub besides : EventKind → Event → List Obj
-besides kinds.Fast e = owner_parts e.lock
-besides kinds.Free e = owner_parts e.lock
-besides kinds.Mark e = owner_parts e.lock
-besides kinds.Take e = owner_parts e.lock ++ Task e.task ∷ []
-besides kinds.Wait e = owner_parts e.lock ++ Task e.task ∷ tasks_of e.owner
-besides kinds.Walk e = owner_parts e.lock ++ tasks_of e.other ++ tasks_of e.owner ++ tasks_of e.woken
-besides kinds.WalkEnd e = tasks_of e.other
-besides kinds.Restart e = along e.path
-besides kinds.Cycle e = along e.path
-besides kinds.Again e = owner_parts e.lock ++ Task e.task ∷ []
-besides kinds.Leave e = owner_parts e.lock ++ Task e.task ∷ tasks_of e.owner
-besides kinds.Give e = owner_parts e.lock ++ Task e.task ∷ tasks_of e.woken
-besides kinds.RIn e = reader_parts e.lock
-besides kinds.ROut e = reader_parts e.lock
-besides kinds.Unbias e = reader_parts e.lock
-besides kinds.WTake e = reader_parts e.lock ++ tasks_of e.owner
-besides kinds.WSleep e = reader_parts e.lock ++ Task e.task ∷ []
-besides kinds.WOpen e = reader_parts e.lock
-besides kinds.WWake e = owner_parts e.lock ++ tasks_of e.owner
-besides kinds.Busy e = looked_at e.value e
-besides kinds.State e = Task e.task ∷ []
-besides kinds.Sched e = Task e.task ∷ []
-besides kinds.Wake e = tasks_of e.other
-besides kinds.SetPrio e = tasks_of e.other
-besides kinds.Own e = []
+-- what the slots of an event name
+abbrev pub objects_of : Touched → List Obj
+objects_of named = owner_parts named.lock ++ (reader_parts named.readers ++ (tasks_of named.own ++ (tasks_of named.owner ++ (tasks_of named.other ++ (tasks_of named.woken ++ along named.path)))))
 
 -- all that an event touches
 abbrev pub footprint : Event → List Obj
-footprint e = Thread e.task ∷ besides e.kind e
+footprint e = Thread e.task ∷ objects_of (touched e.kind e)
 
 -- the object is in the event's footprint
 abbrev pub touches : Event → Obj → Bool

@@ -1,16 +1,20 @@
+-- the objects, the state, and the queue of a lock
 pub mod Parts
-pub mod Rows
 pub mod State
-pub mod Steps
+pub mod Rows
+-- named steps, events by families, and the two dispatches
+pub mod steps
+pub mod Effect
+pub mod Choice
+pub mod events
+pub mod Rules
+pub mod StateAfter
 pub mod Footprint
 pub mod NextEvent
-pub mod After
+-- runs, the order, the stage, and the laws
 pub mod Run
 pub mod Order
-pub mod Laws
-pub mod Holders
-pub mod Priority
-pub mod Called
-pub mod Sound
+pub mod Stage
+pub mod laws
 pub use Rattle.rt_base.specs.Script
 pub use Rattle.rt_base.specs.Kind

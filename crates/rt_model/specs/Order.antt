@@ -7,7 +7,7 @@ use Rattle.rt_model.specs.declared.phase.Phase.{Phase}
 use Rattle.rt_model.specs.declared.phase.Phase.TheVariants.{Walk, Confirm}
 use Rattle.rt_model.specs.State.{State, start, thread_part}
 use Rattle.rt_model.specs.NextEvent.{next_event}
-use Rattle.rt_model.specs.After.{state_after}
+use Rattle.rt_model.specs.StateAfter.{state_after}
 use Rattle.rt_model.specs.Run.{is_enabled, lowest, or_else}
 
 -- events in their order, the state that they leave, and the task that moved last
@@ -63,6 +63,6 @@ chosen (suc n) s last = play_chosen (chosen n) s last (chosen_task s last)
 -- all picks, then at most this many events by the stated choice
 abbrev pub replayed : Script → ℕ → Played
 replayed script turns =
-    let front = picked script.picks (start script) None in
-    let back = chosen turns front.state front.last in
-    record back { events = front.events ++ back.events }
+    let first = picked script.picks (start script) None in
+    let rest = chosen turns first.state first.last in
+    record rest { events = first.events ++ rest.events }

@@ -5,14 +5,14 @@ use Rattle.rt_base.specs.declared.id.LockId.{LockId}
 use Rattle.rt_base.specs.declared.id.TaskId.{TaskId}
 use Rattle.rt_base.specs.declared.id.Cpu.{Cpu}
 use Rattle.rt_base.specs.declared.kind.Kind.{Kind}
+use Rattle.rt_base.specs.declared.kind.Kind.TheVariants.{Mutex}
 use Rattle.rt_base.specs.declared.state.TaskState.{TaskState}
 use Rattle.rt_model.specs.declared.hold.Hold.{Hold}
 use Rattle.rt_model.specs.declared.phase.Phase.{Phase}
 use Rattle.rt_model.specs.declared.row.Row.{Row}
 
--- the owner part of a lock; its kind never changes, and its rows stand least key first, then least ticket
+-- the owner part of a lock
 pub record OwnerPart : Type 0 where
-  pub kind : Kind
   pub owner : Option TaskId
   pub bit : Bool
   pub rows : List Row
@@ -27,8 +27,10 @@ pub record TaskPart : Type 0 where
   pub saved : TaskState
   pub signal : Bool
 
--- the private part of a thread: its calls never change, and holds are listed by lock
+-- the private part of a thread: what it knows of the script, which are the kinds of all locks and its own calls, never
+-- changes; holds are listed by lock
 pub record ThreadPart : Type 0 where
+  pub kinds : List Kind
   pub calls : List Call
   pub answered : ℕ
   pub phase : Phase
@@ -36,15 +38,20 @@ pub record ThreadPart : Type 0 where
   pub migration : ℕ
   pub cpu : Cpu
 
--- the least of a priority and the kept keys
-abbrev pub least : ℕ → List (Option ℕ) → ℕ
+-- the least of a priority and keys
+abbrev pub least : ℕ → List ℕ → ℕ
 least prio [] = prio
-least prio (None ∷ kept) = least prio kept
-least prio (Some key ∷ kept) = min key (least prio kept)
+least prio (key ∷ keys) = min key (least prio keys)
 
--- the effective priority: the least of the own one and the kept keys
+-- the keys that are there
+abbrev pub keys_in : List (Option ℕ) → List ℕ
+keys_in [] = []
+keys_in (None ∷ kept) = keys_in kept
+keys_in (Some key ∷ kept) = key ∷ keys_in kept
+
+-- the effective priority: the least of the own one and the keys of the kept tops
 abbrev pub effective_of : TaskPart → ℕ
-effective_of task = least task.own task.kept
+effective_of task = least task.own (keys_in task.kept)
 
 -- the call that a thread is at, where it isn't at the end of its calls
 abbrev pub call_of : ThreadPart → Option Call
@@ -53,3 +60,12 @@ call_of thread = slice_get thread.calls thread.answered
 -- what a thread holds of a lock
 abbrev pub hold_of : ThreadPart → LockId → Hold
 hold_of thread l = unwrap_or (slice_get thread.holds l.0) (record { owns = false; reads = 0 })
+
+-- the kind of a lock, as a thread knows it
+abbrev pub kind_of : ThreadPart → LockId → Kind
+kind_of thread l = unwrap_or (slice_get thread.kinds l.0) Mutex
+
+-- the same of a lock that may not be named
+abbrev pub kind_named : ThreadPart → Option LockId → Kind
+kind_named thread None = Mutex
+kind_named thread (Some l) = kind_of thread l

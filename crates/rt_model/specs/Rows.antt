@@ -8,14 +8,39 @@ use Rattle.rt_model.specs.declared.reason.Reason.TheVariants as reasons
 use Rattle.rt_model.specs.declared.row.Row.{Row}
 use Rattle.rt_model.specs.Parts.{OwnerPart, TaskPart, effective_of}
 
--- the top waiter: rows stand least key first, then least ticket
+-- ---- the top waiter
+
+-- a row goes before another: less key, or the same key and less ticket
+abbrev pub goes_before : Row → Row → Bool
+goes_before row other = nat_lt row.key other.key || nat_eq row.key other.key && nat_lt row.ticket other.ticket
+
+-- the better of a row and another, where there is one
+abbrev pub better_of : Row → Option Row → Row
+better_of row None = row
+better_of row (Some other) = if goes_before other row then other else row
+
+-- the top waiter: the least of the rows, by key and then by ticket, in whatever order they stand
 abbrev pub top_waiter : List Row → Option Row
 top_waiter [] = None
-top_waiter (row ∷ rows) = Some row
+top_waiter (row ∷ rows) = Some (better_of row (top_waiter rows))
 
 -- the top waiter's key
 abbrev pub top_key : List Row → Option ℕ
 top_key rows = option_map (λ (row : Row). row.key) (top_waiter rows)
+
+-- the task of a row
+abbrev pub task_of : Row → TaskId
+task_of row = record { 0 = row.who }
+
+-- the top waiter's task
+abbrev pub top_task : List Row → Option TaskId
+top_task rows = option_map task_of (top_waiter rows)
+
+-- somebody is queued
+abbrev pub has_rows : List Row → Bool
+has_rows rows = is_some (top_waiter rows)
+
+-- ---- a task's row
 
 -- the row is the task's
 abbrev pub is_of : TaskId → Row → Bool
@@ -29,10 +54,6 @@ row_of t rows = find (is_of t) rows
 abbrev pub queued_key : TaskId → List Row → Option ℕ
 queued_key t rows = option_map (λ (row : Row). row.key) (row_of t rows)
 
--- a row goes before another: less key, or the same key and less ticket
-abbrev pub goes_before : Row → Row → Bool
-goes_before row other = nat_lt row.key other.key || nat_eq row.key other.key && nat_lt row.ticket other.ticket
-
 -- the rows with one more, in order
 abbrev pub insert_row : Row → List Row → List Row
 insert_row row [] = row ∷ []
@@ -42,13 +63,7 @@ insert_row row (other ∷ rows) = if goes_before row other then row ∷ other �
 abbrev pub without : TaskId → List Row → List Row
 without t rows = filter (λ row. not (is_of t row)) rows
 
--- somebody is queued
-abbrev pub has_rows : List Row → Bool
-has_rows rows = is_some (top_waiter rows)
-
--- the key with which a task asks for a lock: its row's where it is queued, else its effective priority
-abbrev pub asked_key : TaskId → List Row → TaskPart → ℕ
-asked_key t rows task = unwrap_or (queued_key t rows) (effective_of task)
+-- ---- who may take a lock
 
 -- why a task with this key may take a lock that has no owner, before a top waiter: it is that one itself, it is better,
 -- or it is as good, of a normal priority, and the lock's kind spins
@@ -59,15 +74,19 @@ reason_before t key kind top =
     else if nat_eq key top.key && nat_lt 99 key && spins kind then Some reasons.Equal
     else None
 
--- why it may take one with these rows
+-- why it may take one with this top waiter, or none
 abbrev pub reason_among : TaskId → ℕ → Kind → Option Row → Option Reason
 reason_among t key kind None = Some reasons.Free
 reason_among t key kind (Some top) = reason_before t key kind top
 
--- why a task that asks with this key may take the lock, where it may
-abbrev pub reason_to_take : TaskId → ℕ → OwnerPart → Option Reason
-reason_to_take t key lock = if is_some lock.owner then None else reason_among t key lock.kind (top_waiter lock.rows)
+-- why a task that asks with this key may take the lock, of this kind, where it may
+abbrev pub may_take : TaskId → ℕ → Kind → OwnerPart → Option Reason
+may_take t key kind lock = if is_some lock.owner then None else reason_among t key kind (top_waiter lock.rows)
+
+-- the key with which a task asks for a lock: its row's where it is queued, else its effective priority
+abbrev pub asked_key : TaskId → List Row → TaskPart → ℕ
+asked_key t rows task = unwrap_or (queued_key t rows) (effective_of task)
 
 -- the task may take the lock
-abbrev pub may_take : TaskId → OwnerPart → TaskPart → Bool
-may_take t lock task = is_some (reason_to_take t (asked_key t lock.rows task) lock)
+abbrev pub can_take : TaskId → Kind → OwnerPart → TaskPart → Bool
+can_take t kind lock task = is_some (may_take t (asked_key t lock.rows task) kind lock)

@@ -8,7 +8,7 @@ use Rattle.rt_model.specs.declared.event.Event.{Event}
 use Rattle.rt_model.specs.Parts.{ThreadPart, call_of}
 use Rattle.rt_model.specs.State.{State}
 use Rattle.rt_model.specs.NextEvent.{next_event}
-use Rattle.rt_model.specs.After.{state_after}
+use Rattle.rt_model.specs.StateAfter.{state_after}
 
 -- the state after these events
 abbrev pub after : State → List Event → State

@@ -1,0 +1,37 @@
+-- Words of which the choice of an event is made.
+use Rattle.std.specs.Prelude.{ℕ, ◌+◌, [], Option, Some, None, nat_eq, if◌then◌else◌}
+use Rattle.rt_base.specs.declared.call.Call.{Call}
+use Rattle.rt_base.specs.declared.call.Call.TheVariants as calls
+use Rattle.rt_base.specs.declared.id.Cpu.{Cpu}
+use Rattle.rt_base.specs.declared.id.LockId.{LockId}
+use Rattle.rt_base.specs.declared.id.TaskId.{TaskId}
+use Rattle.rt_model.specs.declared.event.Event.{Event}
+use Rattle.rt_model.specs.declared.event_kind.EventKind.{EventKind}
+
+-- an event that names nothing but its task
+abbrev pub bare : TaskId → EventKind → Event
+bare t kind = record { task = t; kind = kind; lock = None; other = None; owner = None; woken = None; value = 0; path = []; boost = None; reply = None }
+
+-- the task's effective priority has changed from the one to the other
+abbrev pub boost_of : TaskId → ℕ → ℕ → Option (TaskId × ℕ)
+boost_of t before after = if nat_eq before after then None else Some (t, after)
+
+-- the lock that a call is about; of a local lock the cell of the processor
+abbrev pub called_lock : Cpu → Call → Option LockId
+called_lock cpu (calls.Lock l) = Some l
+called_lock cpu (calls.LockInt l) = Some l
+called_lock cpu (calls.TryLock l) = Some l
+called_lock cpu (calls.Unlock l) = Some l
+called_lock cpu (calls.Spin l) = Some l
+called_lock cpu (calls.TrySpin l) = Some l
+called_lock cpu (calls.Unspin l) = Some l
+called_lock cpu (calls.Read l) = Some l
+called_lock cpu (calls.TryRead l) = Some l
+called_lock cpu (calls.Unread l) = Some l
+called_lock cpu (calls.Write l) = Some l
+called_lock cpu (calls.TryWrite l) = Some l
+called_lock cpu (calls.Unwrite l) = Some l
+called_lock cpu (calls.Downgrade l) = Some l
+called_lock cpu (calls.Local l) = Some (record { 0 = l.0 + cpu.0 })
+called_lock cpu (calls.Unlocal l) = Some (record { 0 = l.0 + cpu.0 })
+called_lock cpu _ = None

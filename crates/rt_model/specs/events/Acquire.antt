@@ -1,0 +1,78 @@
+-- Acquires: fast, mark, take, busy.
+use Rattle.std.specs.Prelude.{ℕ, zero, suc, true, ◌&&◌, not, Option, Some, None, is_none, if◌then◌else◌}
+use Rattle.rt_base.specs.Kind.{spins}
+use Rattle.rt_base.specs.declared.id.LockId.{LockId}
+use Rattle.rt_base.specs.declared.id.TaskId.{TaskId}
+use Rattle.rt_base.specs.declared.kind.Kind.{Kind}
+use Rattle.rt_base.specs.declared.reply.Reply.TheVariants.{Got}
+use Rattle.rt_model.specs.declared.event.Event.{Event}
+use Rattle.rt_model.specs.declared.event_kind.EventKind.TheVariants as kinds
+use Rattle.rt_model.specs.declared.phase.Phase.TheVariants.{Slow}
+use Rattle.rt_model.specs.Parts.{OwnerPart, TaskPart, ThreadPart, effective_of, kind_named}
+use Rattle.rt_model.specs.Rows.{can_take}
+use Rattle.rt_model.specs.steps.Lock.{taken_by}
+use Rattle.rt_model.specs.steps.Task.{refreshed, leave_queue}
+use Rattle.rt_model.specs.Effect.{Touched, Around, Effect, Rule, nothing, unchanged, touches_alone}
+use Rattle.rt_model.specs.Choice.{bare, boost_of}
+
+-- ---- fast, mark: a call that doesn't try gets a lock with no owner and its bit clear at once, and else sets the bit
+
+abbrev pub fast_event : TaskId → LockId → Event
+fast_event t l = record (bare t kinds.Fast) { lock = Some l; reply = Some Got }
+
+abbrev pub mark_event : TaskId → LockId → Event
+mark_event t l = record (bare t kinds.Mark) { lock = Some l }
+
+abbrev pub acquire_event : TaskId → LockId → OwnerPart → Event
+acquire_event t l lock = if is_none lock.owner && not lock.bit then fast_event t l else mark_event t l
+
+-- the task is the owner
+abbrev pub fast : Rule
+fast = record {
+  touched = λ e. record nothing { lock = e.lock };
+  effect = λ e thread found. record unchanged { lock = λ lock. record lock { owner = Some e.task } };
+}
+
+-- the bit is set
+abbrev pub mark : Rule
+mark = record {
+  touched = λ e. record nothing { lock = e.lock };
+  effect = λ e thread found. record unchanged { lock = λ lock. record lock { bit = true }; thread = λ left th. record th { phase = Slow } };
+}
+
+-- ---- take: a call that has set the bit, or is queued and runs, takes the lock where it may
+
+-- the task isn't queued any more, and keeps the key of the top waiter that is left
+abbrev pub taker : Option LockId → Kind → OwnerPart → TaskPart → TaskPart
+taker l kind lock task = refreshed l lock.rows (leave_queue (spins kind) task)
+
+abbrev pub take_event : TaskId → LockId → Kind → OwnerPart → TaskPart → Event
+take_event t l kind lock task = record (bare t kinds.Take) {
+  lock = Some l;
+  reply = Some Got;
+  boost = boost_of t (effective_of task) (effective_of (taker (Some l) kind (taken_by t lock) task));
+}
+
+abbrev pub take_or : Event → TaskId → LockId → Kind → OwnerPart → TaskPart → Event
+take_or other t l kind lock task = if can_take t kind lock task then take_event t l kind lock task else other
+
+-- the lock is the task's, whose row goes
+abbrev pub take : Rule
+take = record {
+  touched = λ e. record nothing { lock = e.lock; own = Some e.task };
+  effect = λ e thread found. record unchanged { lock = taken_by e.task; own = taker e.lock (kind_named thread e.lock) };
+}
+
+-- ---- busy: a call that tries, or a reader, finds the lock taken; no script makes it yet
+
+-- it looks at the reader part where it reads; else at the owner part, and where that has no owner at its own task
+abbrev pub unowned : TaskId → Option TaskId → Option TaskId
+unowned t None = Some t
+unowned t (Some owner) = None
+
+abbrev pub busy_touched : ℕ → Event → Touched
+busy_touched zero e = record nothing { lock = e.lock; own = unowned e.task e.owner }
+busy_touched (suc n) e = record nothing { readers = e.lock }
+
+abbrev pub busy : Rule
+busy = touches_alone (λ e. busy_touched e.value e)

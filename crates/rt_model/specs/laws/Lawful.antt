@@ -1,0 +1,26 @@
+-- All laws of a state.
+use Rattle.std.specs.Prelude.{ℕ}
+use Rattle.rt_model.specs.State.{State}
+use Rattle.rt_model.specs.Stage.{IsStaged}
+use Rattle.rt_model.specs.laws.Shape.{IsShaped}
+use Rattle.rt_model.specs.laws.Phases.{PhasesLaw}
+use Rattle.rt_model.specs.laws.Rows.{RowsLaw}
+use Rattle.rt_model.specs.laws.Owners.{OwnersLaw}
+use Rattle.rt_model.specs.laws.KeptTops.{KeptTopsLaw}
+use Rattle.rt_model.specs.laws.Queued.{QueuedLaw}
+use Rattle.rt_model.specs.laws.States.{StatesLaw}
+use Rattle.rt_model.specs.laws.AwakeTop.{AwakeTopLaw}
+use Rattle.rt_model.specs.laws.Keys.{KeysLaw}
+
+-- the state is lawful, where so many events were made
+pub record IsLawful (s : State) (made : ℕ) : Type 0 where
+  pub shape : IsShaped s
+  pub stage : IsStaged s
+  pub phases : PhasesLaw s
+  pub rows : RowsLaw s made
+  pub kept : KeptTopsLaw s
+  pub queued : QueuedLaw s
+  pub owners : OwnersLaw s
+  pub states : StatesLaw s
+  pub awake : AwakeTopLaw s
+  pub keys : KeysLaw s

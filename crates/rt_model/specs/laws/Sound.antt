@@ -1,0 +1,18 @@
+-- What every run of a script shows.
+use Rattle.std.specs.Prelude.{◌≡◌, List, ◌++◌}
+use Rattle.rt_base.specs.Script.{Script}
+use Rattle.rt_model.specs.declared.event.Event.{Event}
+use Rattle.rt_model.specs.State.{start}
+use Rattle.rt_model.specs.Run.{after}
+use Rattle.rt_model.specs.laws.Holders.{HoldersLaw}
+use Rattle.rt_model.specs.laws.Deadlocks.{DeadlocksLaw}
+use Rattle.rt_model.specs.laws.Priorities.{PriorityLaw}
+use Rattle.rt_model.specs.laws.Calls.{CallsLaw}
+
+-- each lock has one holder at most, and it is the owner; in every state every priority is right; a deadlock answer has its
+-- cause; each task's calls are made once and in order
+pub record IsSound (script : Script) (events : List Event) : Type 0 where
+  pub holders : HoldersLaw (start script) events
+  pub priorities : (prefix rest : List Event) → prefix ++ rest ≡ events → PriorityLaw (after (start script) prefix)
+  pub deadlocks : DeadlocksLaw events
+  pub calls : CallsLaw script events

@@ -1,0 +1,4 @@
+-- The named steps of which events are made.
+pub mod Lock
+pub mod Task
+pub mod Thread

@@ -17,3 +17,5 @@ pub mod Local
 -- what a lawful state says of a task
 pub mod Within
 pub mod Waiters
+-- the laws, one a file
+pub mod laws

@@ -26,24 +26,24 @@ use Rattle.rt_model.proofs.events.Wait.{IsWaiting, slowed, woken_up}
 
 -- one constructor a family
 pub data IsNext (s : State) (t : TaskId) (e : Event) : Type 0 where
-  owns : (call : Call) (answer : Reply) → IsOwn s t call answer e → IsNext s t e
-  acquires : (l : LockId) → IsAcquire s t l e → IsNext s t e
-  waits : (l : LockId) → IsWaiting s t l e → IsNext s t e
-  releases : (l : LockId) → IsRelease s t l e → IsNext s t e
+  by_own : (call : Call) (answer : Reply) → IsOwn s t call answer e → IsNext s t e
+  by_acquire : (l : LockId) → IsAcquire s t l e → IsNext s t e
+  by_wait : (l : LockId) → IsWaiting s t l e → IsNext s t e
+  by_release : (l : LockId) → IsRelease s t l e → IsNext s t e
 
 first_next : (s : State) (t : TaskId) (call : Call) (e : Event) → IsIn s t phases.Start call → IsServed (length s.locks) call → own_answer (thread_part s t) call ≡ None → first_event (shared s) t call ≡ Some e → IsNext s t e
-first_next s t (calls.Lock l) e at served none is = let same : acquire_event t l (owner_part s l) ≡ e = cc in acquires l (acquired s t l e at (not_held _ _ none) same)
-first_next s t (calls.Unlock l) e at served none is = let same : release_event t l (owner_part s l) (task_part s t) ≡ e = cc in releases l (released s t l e at (was_held _ none) same)
+first_next s t (calls.Lock l) e at served none is = let same : acquire_event t l (owner_part s l) ≡ e = cc in by_acquire l (acquired s t l e at (not_held _ _ none) same)
+first_next s t (calls.Unlock l) e at served none is = let same : release_event t l (owner_part s l) (task_part s t) ≡ e = cc in by_release l (released s t l e at (was_held _ none) same)
 first_next s t _ e at served none is = absurd served
 
 started : (s : State) (t : TaskId) (call : Call) (e : Event) (answer : Option Reply) → IsIn s t phases.Start call → IsServed (length s.locks) call → own_answer (thread_part s t) call ≡ answer
     → answered_or (first_event (shared s) t call) t (called_lock (thread_part s t).cpu call) answer ≡ Some e → IsNext s t e
 started s t call e None at served none is = first_next s t call e at served none is
-started s t call e (Some answer) at served some is = owns call answer (record { at = at; why = some; event = cc })
+started s t call e (Some answer) at served some is = by_own call answer (record { at = at; why = some; event = cc })
 
 taken_or_waiting : (s : State) (t : TaskId) (l : LockId) (e : Event) → IsTake s t l e ⊎ IsWaiting s t l e → IsNext s t e
-taken_or_waiting s t l e (inl takes) = acquires l (is_take takes)
-taken_or_waiting s t l e (inr waiting) = waits l waiting
+taken_or_waiting s t l e (inl takes) = by_acquire l (is_take takes)
+taken_or_waiting s t l e (inr waiting) = by_wait l waiting
 
 in_slow : (s : State) (t : TaskId) (call : Call) (e : Event) → IsIn s t phases.Slow call → IsPhaseOf phases.Slow (Some call) → later_event phases.Slow (shared s) t (thread_part s t) (called_lock (thread_part s t).cpu call) ≡ Some e → IsNext s t e
 in_slow s t (calls.Lock l) e at fits is =

@@ -10,6 +10,7 @@ pub mod Calling
 pub mod events
 pub mod NextEvents
 pub mod PartsAfter
+pub mod Blocked
 -- what an event reads and writes
 pub mod Frame
 pub mod EffectLocal

@@ -4,4 +4,5 @@ pub mod Phases
 pub mod Rows
 pub mod Owners
 pub mod KeptTops
+pub mod Queued
 pub mod States

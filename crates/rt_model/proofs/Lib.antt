@@ -18,5 +18,6 @@ pub mod Local
 -- what a lawful state says of a task
 pub mod Within
 pub mod Waiters
+pub mod Named
 -- the laws, one a file
 pub mod laws

@@ -38,6 +38,10 @@ pub if_some : {X : Type 0} (o : Option X) (P Q : X → Type 0) → ((x : X) → 
 if_some None P Q then is = tt
 if_some (Some x) P Q then is = then x refl is
 
+pub if_found : {X : Type 0} (o : Option X) (P : X → Type 0) → ((x : X) → o ≡ Some x → P x) → IfSome o P
+if_found None P holds = tt
+if_found (Some x) P holds = holds x refl
+
 -- ---- one element updated
 
 -- an update, as a write of what f makes of the element

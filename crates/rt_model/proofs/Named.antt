@@ -41,7 +41,7 @@ owner_boost_within : (n : ℕ) (l : LockId) (lock : OwnerPart) (owner : Option T
 owner_boost_within n l lock None task lt = tt
 owner_boost_within n l lock (Some o) task lt = boost_within n o _ _ lt
 
-top_within : (n : ℕ) (rows : List Row) → All (λ (row : Row). row.who < n) rows → IfSome (top_task rows) (λ t. t.0 < n)
+pub top_within : (n : ℕ) (rows : List Row) → All (λ (row : Row). row.who < n) rows → IfSome (top_task rows) (λ t. t.0 < n)
 top_within n rows all = by_top (top_waiter rows) (top-holds (λ (row : Row). row.who < n) rows all)
   where
     by_top : (top : Option Row) → IfSome top (λ (row : Row). row.who < n) → IfSome (option_map task_of top) (λ t. t.0 < n)

@@ -22,6 +22,9 @@ task_room s u shaped lt = subst (λ (n : ℕ). u.0 < n) (sym shaped.tasks) lt
 pub owner_within : (s : State) (l : LockId) → IsShaped s → l.0 < length s.locks → IfSome (owner_part s l).owner (λ t. t.0 < length s.threads)
 owner_within s l shaped lt = All-default (λ (lock : OwnerPart). IfSome lock.owner (λ t. t.0 < length s.threads)) s.locks l.0 _ shaped.owners lt
 
+pub owner_room : (s : State) (l : LockId) → IsShaped s → l.0 < length s.locks → IfSome (owner_part s l).owner (λ t. t.0 < length s.tasks)
+owner_room s l shaped lt = subst (λ (n : ℕ). IfSome (owner_part s l).owner (λ t. t.0 < n)) (sym shaped.tasks) (owner_within s l shaped lt)
+
 pub rows_within : (s : State) (l : LockId) → IsShaped s → l.0 < length s.locks → All (λ (row : Row). row.who < length s.threads) (owner_part s l).rows
 rows_within s l shaped lt = All-default (λ (lock : OwnerPart). All (λ (row : Row). row.who < length s.threads) lock.rows) s.locks l.0 _ shaped.rows lt
 

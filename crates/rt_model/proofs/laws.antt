@@ -5,4 +5,6 @@ pub mod Rows
 pub mod Owners
 pub mod KeptTops
 pub mod Queued
+pub mod AwakeTop
+pub mod Keys
 pub mod States

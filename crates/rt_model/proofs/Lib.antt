@@ -19,5 +19,6 @@ pub mod Local
 pub mod Within
 pub mod Waiters
 pub mod Named
--- the laws, one a file
+-- the laws, one a file, and that a next event keeps all of them
 pub mod laws
+pub mod Lawful

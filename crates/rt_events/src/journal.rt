@@ -5,8 +5,8 @@ ghost use Rattle.rt_events.specs.Journal.{header, end_line};
 
 use crate::appending::{append, push_byte, push_word};
 use crate::words::end_text;
-use rt_base::limits::MAX_LINE;
 use rt_base::Ended;
+use rt_base::limits::MAX_LINE;
 
 /// Writes the first line of a journal.
 pub fn write_header(out: &mut Vec<u8>)

@@ -86,7 +86,7 @@ slot-left P xs (Some v) u f lt here there = by_test (nat_eq v.0 u.0) refl
 
 -- ---- what each change keeps
 
-kept-at : {X : Type 0} (P : X → Type 0) (xs : List X) (i j : ℕ) (f : X → X) (d : X) → P (unwrap_or (slice_get xs j) d) → ((x : X) → P x → P (f x)) → P (unwrap_or (slice_get (update xs i f) j) d)
+pub kept-at : {X : Type 0} (P : X → Type 0) (xs : List X) (i j : ℕ) (f : X → X) (d : X) → P (unwrap_or (slice_get xs j) d) → ((x : X) → P x → P (f x)) → P (unwrap_or (slice_get (update xs i f) j) d)
 kept-at P [] i j f d was keeps = was
 kept-at P (x ∷ xs) zero zero f d was keeps = keeps x was
 kept-at P (x ∷ xs) zero (suc j) f d was keeps = was

@@ -2,7 +2,7 @@
 use Rattle.std.specs.Prelude.{◌≡◌, ℕ, ◌-◌, ◌≤◌, ◌==◌, ◌&&◌, Bool, List, ◌++◌, length, drop, replicate}
 use Rattle.std.specs.Cmp.Lexicographic.{pointwise}
 
--- 64 places: these numbers, and zeros behind them
+-- 64 places: these numbers, and zeros after them
 abbrev pub padded : List ℕ → List ℕ
 padded xs = xs ++ replicate (64 - length xs) 0
 

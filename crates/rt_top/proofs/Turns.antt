@@ -16,7 +16,7 @@ use Rattle.rt_model.specs.After.{state_after}
 use Rattle.rt_model.specs.Run.{is_enabled, is_at_end, is_done, ended_of, lowest, or_else}
 use Rattle.rt_model.specs.Order.{Played, in_walk, then_play, if_enabled, is_walking, chosen_task, play_chosen, chosen}
 use Rattle.rt_model.proofs.Lowest.{lowest-below}
-use Rattle.rt_top.proofs.Asked.{both}
+use Rattle.rt_top.proofs.OptionForms.{both}
 use Rattle.rt_top.specs.Turns.{HasNext, IsCutShort}
 
 -- ---- the lowest number that passes a test

@@ -1,3 +1,4 @@
 pub mod Links
 pub mod Names
 pub mod Outside
+pub mod Stream

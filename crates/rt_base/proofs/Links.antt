@@ -43,20 +43,20 @@ take-zip (suc n) (x ∷ xs) (y ∷ ys) = ap (λ l. (x, y) ∷ l) (take-zip n xs 
 
 pub zip_padded-push : (n : ℕ) (xs ys : List ℕ) (x y : ℕ) → IsPadded n xs → IsPadded n ys → n < 64 → zip (take (n + 1) (set xs n x)) (take (n + 1) (set ys n y)) ≡ zip (take n xs) (take n ys) ++ (x, y) ∷ []
 zip_padded-push n xs ys x y h k room =
-    let front : take (n + 1) (set xs n x) ≡ take n xs ++ x ∷ [] = take_more_set xs n x (omega arith) in
+    let first : take (n + 1) (set xs n x) ≡ take n xs ++ x ∷ [] = take_more_set xs n x (omega arith) in
     let other : take (n + 1) (set ys n y) ≡ take n ys ++ y ∷ [] = take_more_set ys n y (omega arith) in
-    rw (front, other) (zip-push (take n xs) (take n ys) x y (length-take_padded n xs h ∙ sym (length-take_padded n ys k)))
+    rw (first, other) (zip-push (take n xs) (take n ys) x y (length-take_padded n xs h ∙ sym (length-take_padded n ys k)))
 
 pub zip_padded-cut : (k n : ℕ) (xs ys : List ℕ) → IsPadded n xs → IsPadded n ys → k ≤ n → zip (take k (take k xs ++ replicate (64 - k) 0)) (take k (take k ys ++ replicate (64 - k) 0)) ≡ take k (zip (take n xs) (take n ys))
 zip_padded-cut k n xs ys hx hy within =
-    let front : take k (take k xs ++ replicate (64 - k) 0) ≡ take k xs = take_at (take k xs) (replicate (64 - k) 0) k (length-take-le k xs (omega arith)) in
+    let first : take k (take k xs ++ replicate (64 - k) 0) ≡ take k xs = take_at (take k xs) (replicate (64 - k) 0) k (length-take-le k xs (omega arith)) in
     let other : take k (take k ys ++ replicate (64 - k) 0) ≡ take k ys = take_at (take k ys) (replicate (64 - k) 0) k (length-take-le k ys (omega arith)) in
-    rw (front, other, take-zip k (take n xs) (take n ys), take-take k n xs within, take-take k n ys within)
+    rw (first, other, take-zip k (take n xs) (take n ys), take-take k n xs within, take-take k n ys within)
 
 pub slice_get-zip_padded : (n : ℕ) (xs ys : List ℕ) (i : ℕ) → IsPadded n xs → IsPadded n ys → i < n → slice_get (zip (take n xs) (take n ys)) i ≡ Some (get_or xs i 0, get_or ys i 0)
 slice_get-zip_padded n xs ys i h k below =
     let long : length (zip (take n xs) (take n ys)) ≡ n = length-zip_padded n xs ys h k in
-    let front : length (take n xs) ≡ n = length-take_padded n xs h in
+    let first : length (take n xs) ≡ n = length-take_padded n xs h in
     let other : length (take n ys) ≡ n = length-take_padded n ys k in
     slice_get-get_or (zip (take n xs) (take n ys)) i (0, 0) (omega arith)
     ∙ ap Some (get_or-zip (take n xs) (take n ys) i (0, 0) (omega arith) (omega arith))

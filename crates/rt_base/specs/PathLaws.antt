@@ -19,7 +19,7 @@ pub length-zip_padded : (n : ℕ) (xs ys : List ℕ) → IsPadded n xs → IsPad
 length-zip_padded n xs ys h k =
     omega (arith, length-zip (take n xs) (take n ys), length-take_padded n xs h, length-take_padded n ys k)
 
--- what the front and the zeros behind it give back
+-- what the places in use and the zeros after them give back
 pub padded-take : (n : ℕ) (xs : List ℕ) → IsPadded n xs → padded (take n xs) ≡ xs
 padded-take n xs h =
     let long : length (take n xs) ≡ n = length-take_padded n xs h in

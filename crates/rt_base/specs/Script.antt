@@ -80,7 +80,7 @@ abbrev pub locks_of : ℕ → List ℕ → Kind → List LockLine
 locks_of cpus name kinds.Local = cells_of name cpus
 locks_of cpus name kind = record { name = name; kind = kind; cell = None } ∷ []
 
--- the locks that lines of these names and kinds make, one line behind the other
+-- the locks that lines of these names and kinds make, one line after the other
 abbrev pub locks_of_lines : ℕ → List (List ℕ × Kind) → List LockLine
 locks_of_lines cpus lines = flat_map (λ line. locks_of cpus line.0 line.1) lines
 

@@ -72,7 +72,7 @@ impl Path {
         (TaskId(self.tasks[i] as u32), LockId(self.locks[i] as u32))
     }
 
-    /// Puts a link behind the others.
+    /// Puts a link after the others.
     pub fn push(&mut self, t: TaskId, l: LockId)
         requires room { length self.old < MAX_TASKS }
         requires task { t.0 < MAX_TASKS }
@@ -90,7 +90,7 @@ impl Path {
         requires { n ≤ length self.old }
         ensures { self.new ≡ take n self.old }
     {
-        // Behind its links a path is zero, so that equal paths are equal in all their fields.
+        // After its links a path is zero, so that equal paths are equal in all their fields.
         clear_from(&mut self.tasks, n);
         clear_from(&mut self.locks, n);
         self.len = n as u8;

@@ -1,4 +1,4 @@
-ghost use Rattle.std.specs.Prelude.{◌≡◌, ◌+◌, ◌<◌, ◌≤◌, ◌↔◌, [], length, IfOk, vec_len};
+ghost use Rattle.std.specs.Prelude.{◌≡◌, ◌+◌, ◌<◌, ◌≤◌, ◌↔◌, [], length, IfOk, OnErr, vec_len};
 ghost use Rattle.rt_base.specs.Outside.{Takes};
 ghost use Rattle.rt_base.specs.Reading.{Ends};
 
@@ -31,6 +31,7 @@ pub fn read_whole<S: Source>(
     requires limit { limit < 4294967295 }
     ensures taken { Takes (S.left src.old) buf.new.items (S.left src.new) }
     ensures ended { IfOk result (λ taken. Ends taken buf.new.items limit (S.left src.new) (S.faults src.old) (S.faults src.new)) }
+    ensures no_fault { OnErr result (S.faults src.new ≡ S.faults src.old) }
     ensures within { length buf.new.items ≤ limit + 1 }
     ensures over { IfOk result (λ taken. (taken ≡ Taken.Over) ↔ (length buf.new.items ≡ limit + 1)) }
     ensures count { S.faults src.old ≤ S.faults src.new }

@@ -1,4 +1,4 @@
-ghost use Rattle.std.specs.Prelude.{◌≡◌, ℕ, ◌<◌, ◌≤◌, List, [], ◌++◌, false, length, take, Option, IfOk, OnErr, vec_len, vec_capacity};
+ghost use Rattle.std.specs.Prelude.{◌≡◌, ℕ, ◌<◌, ◌≤◌, List, [], ◌++◌, false, length, take, Option, IfOk, OnOk, OnErr, vec_len, vec_capacity};
 ghost use Rattle.rt_base.specs.Outside.{Rises, Appends};
 ghost use Rattle.rt_base.specs.Kept.{Kept, told, with_piece, KeepsFirst};
 
@@ -14,11 +14,13 @@ pub trait Sink {
     /// How often the sink has failed.
     ghost faults: { Self → ℕ };
 
-    /// Appends bytes of the piece's front, and answers how many. To take nothing of a piece that
-    /// isn't empty is a fault.
+    /// Appends a prefix of the piece, and answers how long. To take nothing of a piece that isn't
+    /// empty is a fault.
     fn write(&mut self, piece: &[u8]) -> Result<usize, Failed>
         ensures within { IfOk result (λ n. n ≤ length piece.now) }
         ensures appended { IfOk result (λ n. Appends (held self.old) (take n piece.now) (held self.new)) }
+        ensures some { IfOk result (λ n. 0 < n → faults self.new ≡ faults self.old) }
+        ensures empty { length piece.now ≡ 0 → OnOk result (faults self.new ≡ faults self.old) }
         ensures nothing { IfOk result (λ n. n ≡ 0 → 0 < length piece.now → Rises (faults self.old) (faults self.new)) }
         ensures err { OnErr result (Appends (held self.old) [] (held self.new)) }
         ensures cause { OnErr result (Rises (faults self.old) (faults self.new)) }

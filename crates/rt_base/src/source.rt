@@ -1,4 +1,4 @@
-ghost use Rattle.std.specs.Prelude.{◌≡◌, ℕ, ◌<◌, ◌≤◌, min, List, [], ◌++◌, length, take, drop, Option, Some, IfOk, OnErr};
+ghost use Rattle.std.specs.Prelude.{◌≡◌, ℕ, ◌<◌, ◌≤◌, min, List, [], ◌++◌, length, take, drop, Option, Some, IfOk, OnOk, OnErr};
 ghost use Rattle.rt_base.specs.Outside.{Rises, Takes, IsAtEnd};
 
 use crate::Failed;
@@ -12,12 +12,13 @@ pub trait Source {
     /// How often the source has failed.
     ghost faults: { Self → ℕ };
 
-    /// Puts the next bytes at the buffer's front, and answers how many. With room in the buffer,
+    /// Puts the next bytes at the start of the buffer, and answers how many. With room in the buffer,
     /// 0 is the end of input. Of the buffer after `Failed` nothing is said.
     fn read(&mut self, buf: &mut [u8]) -> Result<usize, Failed>
         ensures within { IfOk result (λ n. n ≤ length buf.new) }
         ensures taken { IfOk result (λ n. Takes (left self.old) (take n buf.new) (left self.new)) }
         ensures end { IfOk result (λ n. n ≡ 0 → 0 < length buf.old → IsAtEnd (left self.new)) }
+        ensures ok { OnOk result (faults self.new ≡ faults self.old) }
         ensures err { OnErr result (Takes (left self.old) [] (left self.new)) }
         ensures cause { OnErr result (Rises (faults self.old) (faults self.new)) }
         ensures count { faults self.old ≤ faults self.new };

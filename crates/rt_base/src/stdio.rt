@@ -1,7 +1,7 @@
 ghost use Rattle.std.specs.Prelude.{◌≡◌, ℕ, ◌<◌, ◌≤◌, List, length, take, None, IfOk, OnOk, OnErr};
 ghost use Rattle.std.specs.Io.KnownBytes as known;
 ghost use Rattle.rt_base.specs.Outside.{raised};
-ghost use Rattle.rt_base.specs.Stream.{Stream};
+ghost use Rattle.rt_base.specs.Stream.{Stream, AppendsKnownPrefix};
 
 use crate::{Failed, Sink, Source};
 use std::io;
@@ -54,8 +54,8 @@ impl<R: Read> Source for StdinSource<R> {
 }
 
 /// A writer of the system as a sink. It tells nothing of the bytes. Each error is a fault, and so is
-/// a write that takes nothing of a piece that isn't empty. What it has taken is in no buffer of the
-/// writer.
+/// a write that takes nothing of a piece that isn't empty. After an error the writer may have some prefix
+/// of the piece. What it has taken is in no buffer of the writer.
 #[derive(Drop)]
 pub struct StdoutSink<W: Write> {
     writer: W,
@@ -88,6 +88,7 @@ impl<W: Write> Sink for StdoutSink<W> {
         ensures some { IfOk result (λ n. 0 < n → self.new.faults ≡ self.old.faults) }
         ensures empty { length piece.now ≡ 0 → OnOk result (self.new.faults ≡ self.old.faults) }
         ensures nothing { IfOk result (λ n. n ≡ 0 → 0 < length piece.now → self.new.faults ≡ raised self.old.faults) }
+        ensures part { OnErr result (AppendsKnownPrefix self.old.bytes self.new.bytes piece.now) }
         ensures err { OnErr result (self.new.faults ≡ raised self.old.faults) }
         ensures count { self.old.faults ≤ self.new.faults }
     {
@@ -103,6 +104,7 @@ impl<W: Write> Sink for StdoutSink<W> {
 fn write_through<W: Write>(writer: &mut W, piece: &[u8]) -> io::Result<usize>
     ensures within { IfOk result (λ count. count ≤ length piece.now) }
     ensures appended { IfOk result (λ count. known.Appends (W.contents writer.old) (W.contents writer.new) (take count piece.now)) }
+    ensures part { OnErr result (AppendsKnownPrefix (W.contents writer.old) (W.contents writer.new) piece.now) }
 {
     let count = writer.write(piece)?;
     writer.flush()?;

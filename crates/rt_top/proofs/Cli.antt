@@ -10,9 +10,10 @@ use Rattle.clap.specs.Simple.{on_top}
 use Rattle.clap.proofs.OnLiterals.{clap_on_literals}
 use Rattle.rt_script.specs.Words.{number_upto}
 use Rattle.rt_top.specs.declared.options.Options.{Options}
-use Rattle.rt_top.specs.Words.{IsTurns, asked}
+use Rattle.rt_top.specs.declared.options.TheConstants.{MAX_TURNS}
+use Rattle.rt_top.specs.Words.{IsTurns, options_of}
 use Rattle.rt_top.proofs.Spelled.{Spells, spells, some_of, digits_of}
-use Rattle.rt_top.proofs.Asked.{Form, plain, with_turns, forms}
+use Rattle.rt_top.proofs.OptionForms.{Form, plain, with_turns, forms}
 
 abbrev pub command_rule : Rule
 command_rule = record (new_rule (codes "command")) { required = true }
@@ -23,7 +24,7 @@ turns_rule = record (new_rule (codes "turns")) { long = Some (codes "turns") }
 abbrev pub patience_rule : Rule
 patience_rule = record (new_rule (codes "patience")) { long = Some (codes "patience") }
 
--- words with no program's name in front
+-- words without the program's name
 abbrev pub bare : App
 bare = on_top (λ s. record s { no_binary_name = true }) (new_app (codes "rtlab"))
 
@@ -40,7 +41,7 @@ pub reads_replay : Reads (codes "replay" ∷ []) None
 unfolding clap_on_literals
 reads_replay = record { taken = refl; turns = refl }
 
--- a word that begins with d stands behind the option
+-- a word that begins with d stands after the option
 abbrev ReadsAt : List ℕ → ℕ → Type 0
 ReadsAt ds d = Reads (codes "replay" ∷ codes "--turns" ∷ (d ∷ ds) ∷ []) (Some (d ∷ ds))
 
@@ -66,23 +67,23 @@ reads_turns ds d low high =
 -- the words are taken, and what is found for the option says what is asked for
 pub record IsRead (words : List Text) : Type 0 where
   pub taken : takes cli words ≡ true
-  pub turns : IsTurns (one_of (codes "turns") (matches_of cli words)) (asked words)
+  pub turns : IsTurns (one_of (codes "turns") (matches_of cli words)) (options_of words)
 
 -- a word that spells a number begins with a digit
-read_number : (word : List ℕ) (n : ℕ) → number_upto 4294967295 word ≡ Some n → Reads (codes "replay" ∷ codes "--turns" ∷ word ∷ []) (Some word)
-read_number word n is = first word (some_of 4294967295 word n (omega arith) s) (digits_of 4294967295 word n (omega arith) s)
+read_number : (word : List ℕ) (n : ℕ) → number_upto MAX_TURNS word ≡ Some n → Reads (codes "replay" ∷ codes "--turns" ∷ word ∷ []) (Some word)
+read_number word n is = first word (some_of MAX_TURNS word n (omega arith) s) (digits_of MAX_TURNS word n (omega arith) s)
   where
-    s : Spells 4294967295 word n
-    s = spells 4294967295 word n is
+    s : Spells MAX_TURNS word n
+    s = spells MAX_TURNS word n is
 
     first : (text : List ℕ) → 0 < length text → all_ascii_digits text ≡ true → Reads (codes "replay" ∷ codes "--turns" ∷ text ∷ []) (Some text)
     first [] some digits = absurd (omega arith)
     first (d ∷ ds) some digits = let range = tells_all_ascii_digits.parts d ds digits in reads_turns ds d range.0.0 range.0.1
 
-pub read_words : (words : List Text) → is_some (asked words) ≡ true → IsRead words
-read_words words accepted = given (asked words) refl accepted
+pub read_words : (words : List Text) → is_some (options_of words) ≡ true → IsRead words
+read_words words accepted = given (options_of words) refl accepted
   where
-    given : (o : Option Options) → asked words ≡ o → is_some o ≡ true → IsRead words
+    given : (o : Option Options) → options_of words ≡ o → is_some o ≡ true → IsRead words
     given None is some = cc some
     given (Some options) is some = by_form (forms words options is)
       where
@@ -90,11 +91,11 @@ read_words words accepted = given (asked words) refl accepted
         by_form (plain words_are options_are) =
             record {
               taken = ap (takes cli) words_are ∙ reads_replay.taken;
-              turns = subst (λ (given : Option Text). IsTurns given (asked words)) (sym (ap (λ ws. one_of (codes "turns") (matches_of cli ws)) words_are ∙ reads_replay.turns)) (is ∙ ap Some options_are);
+              turns = subst (λ (given : Option Text). IsTurns given (options_of words)) (sym (ap (λ ws. one_of (codes "turns") (matches_of cli ws)) words_are ∙ reads_replay.turns)) (is ∙ ap Some options_are);
             }
         by_form (with_turns word n words_are spelled options_are) =
             let reads = read_number word n spelled in
             record {
               taken = ap (takes cli) words_are ∙ reads.taken;
-              turns = subst (λ (given : Option Text). IsTurns given (asked words)) (sym (ap (λ ws. one_of (codes "turns") (matches_of cli ws)) words_are ∙ reads.turns)) (n, spelled, is ∙ ap Some options_are);
+              turns = subst (λ (given : Option Text). IsTurns given (options_of words)) (sym (ap (λ ws. one_of (codes "turns") (matches_of cli ws)) words_are ∙ reads.turns)) (n, spelled, is ∙ ap Some options_are);
             }

@@ -14,9 +14,9 @@ use Rattle.rt_core.specs.Report.{report_of}
 use Rattle.rt_events.specs.Journal.{header, lines_of, end_line}
 use Rattle.rt_core.specs.Text.{replay_text}
 use Rattle.rt_top.specs.Status.{status_of}
-use Rattle.rt_top.specs.Turns.{behind_picks}
+use Rattle.rt_top.specs.Turns.{after_picks}
 use Rattle.rt_top.specs.Answer.{Output, IsPrinted, Replays}
-use Rattle.rt_top.proofs.Going.{lines_of-append}
+use Rattle.rt_top.proofs.PlayLoop.{lines_of-append}
 
 -- the budget of a script is small
 pub budget_le : (script : Script) → IsScript script → budget_of script ≤ 17371200
@@ -29,37 +29,37 @@ budget_le script valid =
     mul-le-mul some more
 
 -- what is played of a script first: the picks
-abbrev pub front_of : Script → Played
-front_of script = picked script.picks (start script) None
+abbrev pub played_picks : Script → Played
+played_picks script = picked script.picks (start script) None
 
 -- its lines are those of the picks and then those of the choice
-pub journal_parts : (script : Script) (turns : ℕ) → (header ++ lines_of script 1 (front_of script).events) ++ lines_of script (1 + length (front_of script).events) (behind_picks script turns).events ≡ header ++ lines_of script 1 (replayed script turns).events
+pub journal_parts : (script : Script) (turns : ℕ) → (header ++ lines_of script 1 (played_picks script).events) ++ lines_of script (1 + length (played_picks script).events) (after_picks script turns).events ≡ header ++ lines_of script 1 (replayed script turns).events
 journal_parts script turns =
-    append_assoc header (lines_of script 1 (front_of script).events) (lines_of script (1 + length (front_of script).events) (behind_picks script turns).events)
-    ∙ ap (λ text. header ++ text) (sym (lines_of-append script 1 (front_of script).events (behind_picks script turns).events))
+    append_assoc header (lines_of script 1 (played_picks script).events) (lines_of script (1 + length (played_picks script).events) (after_picks script turns).events)
+    ∙ ap (λ text. header ++ text) (sym (lines_of-append script 1 (played_picks script).events (after_picks script turns).events))
 
 -- the lines of the picks, from a core at the start
-pub front_lines : (script : Script) (core : Made) → core ≡ record { state = start script; made = 0 } → lines_of script (core.made + 1) (picked script.picks core.state None).events ≡ lines_of script 1 (front_of script).events
-front_lines script core is = ap (λ (m : Made). lines_of script (m.made + 1) (picked script.picks m.state None).events) is
+pub picks_lines : (script : Script) (core : Made) → core ≡ record { state = start script; made = 0 } → lines_of script (core.made + 1) (picked script.picks core.state None).events ≡ lines_of script 1 (played_picks script).events
+picks_lines script core is = ap (λ (m : Made). lines_of script (m.made + 1) (picked script.picks m.state None).events) is
 
 -- the choice, from what the picks left
-pub back_is : (script : Script) (core : Made) (turns : ℕ) (s : State) (last : Option TaskId) → core ≡ record { state = start script; made = 0 }
-    → s ≡ (picked script.picks core.state None).state → last ≡ (picked script.picks core.state None).last → chosen turns s last ≡ behind_picks script turns
-back_is script core turns s last is leaves moved =
+pub after_picks_is : (script : Script) (core : Made) (turns : ℕ) (s : State) (last : Option TaskId) → core ≡ record { state = start script; made = 0 }
+    → s ≡ (picked script.picks core.state None).state → last ≡ (picked script.picks core.state None).last → chosen turns s last ≡ after_picks script turns
+after_picks_is script core turns s last is leaves moved =
     let start_is : core.state ≡ start script = ap (λ (m : Made). m.state) is in
-    let left : s ≡ (front_of script).state = leaves ∙ ap (λ (r : State). (picked script.picks r None).state) start_is in
-    let mover : last ≡ (front_of script).last = moved ∙ ap (λ (r : State). (picked script.picks r None).last) start_is in
+    let left : s ≡ (played_picks script).state = leaves ∙ ap (λ (r : State). (picked script.picks r None).state) start_is in
+    let mover : last ≡ (played_picks script).last = moved ∙ ap (λ (r : State). (picked script.picks r None).last) start_is in
     λ i. chosen turns (left i) (mover i)
 
 -- and its lines
-pub back_lines : (script : Script) (core : Made) (count turns : ℕ) (back : Played) → core ≡ record { state = start script; made = 0 }
-    → count ≡ length (picked script.picks core.state None).events → back ≡ behind_picks script turns
-    → lines_of script (count + 1) back.events ≡ lines_of script (1 + length (front_of script).events) (behind_picks script turns).events
-back_lines script core count turns back is counts back_is =
+pub after_picks_lines : (script : Script) (core : Made) (count turns : ℕ) (back : Played) → core ≡ record { state = start script; made = 0 }
+    → count ≡ length (picked script.picks core.state None).events → back ≡ after_picks script turns
+    → lines_of script (count + 1) back.events ≡ lines_of script (1 + length (played_picks script).events) (after_picks script turns).events
+after_picks_lines script core count turns back is counts after_picks_is =
     let start_is : core.state ≡ start script = ap (λ (m : Made). m.state) is in
-    let counted : count ≡ length (front_of script).events = counts ∙ ap (λ (r : State). length (picked script.picks r None).events) start_is in
-    let number : count + 1 ≡ 1 + length (front_of script).events = omega arith in
-    λ i. lines_of script (number i) (back_is i).events
+    let counted : count ≡ length (played_picks script).events = counts ∙ ap (λ (r : State). length (picked script.picks r None).events) start_is in
+    let number : count + 1 ≡ 1 + length (played_picks script).events = omega arith in
+    λ i. lines_of script (number i) (after_picks_is i).events
 
 -- the text is the journal and then the end and the report
 pub text_parts : (script : Script) (turns : ℕ) (s : State) (ended : Ended) → s ≡ (replayed script turns).state → ended ≡ ended_of s

@@ -1,10 +1,10 @@
 pub mod Printed
-pub mod Going
+pub mod PlayLoop
 pub mod Loops
 pub mod Reported
 pub mod Journal
 pub mod Spelled
-pub mod Asked
+pub mod OptionForms
 pub mod Cli
 pub mod Turns
-pub mod Told
+pub mod MessageWritten

@@ -1,15 +1,14 @@
 -- What the loops that play a run keep.
-use Rattle.std.proofs.Common.{◌≡◌, ℕ, zero, suc, ◌+◌, ◌-◌, ◌<◌, ◌≤◌, List, [], length, drop, get_or, Option, Some, None, Result, Ok, Err, IfSome, refl, sym, ap, ◌∙◌, subst, drop-cons, append-nil, arith, IsErr, OnErr}
+use Rattle.std.proofs.Common.{◌≡◌, ℕ, zero, suc, ◌+◌, ◌-◌, ◌<◌, ◌≤◌, List, [], length, drop, get_or, Option, Some, None, Result, Ok, Err, IfSome, refl, sym, ap, ◌∙◌, subst, drop-cons, append-nil, arith, IsErr}
 use Rattle.rt_base.specs.Script.{Script}
 use Rattle.rt_base.specs.declared.fault.Failed.{Failed}
 use Rattle.rt_base.specs.declared.id.TaskId.{TaskId}
 use Rattle.rt_base.specs.Outside.{Rises}
-use Rattle.rt_base.proofs.Outside.{Rises-then}
 use Rattle.rt_model.specs.State.{State}
-use Rattle.rt_model.specs.Laws.{IsOf}
+use Rattle.rt_model.specs.laws.Shape.{IsOf}
 use Rattle.rt_model.specs.NextEvent.{next_event}
 use Rattle.rt_model.specs.Order.{Played, stop, picked, chosen, chosen_task, then_play}
-use Rattle.rt_model.proofs.Starts.{IsOf-tasks}
+use Rattle.rt_model.proofs.laws.Shape.{IsOf-threads}
 use Rattle.rt_model.proofs.Lowest.{chosen_below}
 use Rattle.rt_model.proofs.Runs.{Leads}
 use Rattle.rt_core.specs.Made.{Made}
@@ -17,14 +16,14 @@ use Rattle.rt_events.specs.Journal.{lines_of}
 use Rattle.rt_top.specs.declared.progress.Progress.{Progress}
 use Rattle.rt_top.specs.Printing.{Prints}
 use Rattle.rt_top.specs.Playing.{IsPartMade, Moves, Stops}
-use Rattle.rt_top.proofs.Going.{Going, Gone, moves_on, stops_at, ends}
+use Rattle.rt_top.proofs.PlayLoop.{Going, Gone, moves_on, stops_at, ends}
 
 -- a run is being made and told from this core, this buffer and this sink on
 pub record Looping (script : Script) (first : ℕ) (s0 : State) (whole rest : Played) (s : State) (made0 made : ℕ) (now : Progress) (h0 : Option (List ℕ)) (b0 : List ℕ) (h : Option (List ℕ)) (b : List ℕ) (f0 f room0 room : ℕ) : Type 0 where
   pub going : Going script first s0 whole rest s now.count h0 b0 h b
   pub made_is : made ≡ made0 + now.count
   pub script_is : IsOf script s
-  pub faults : f0 ≤ f
+  pub no_fault : f ≡ f0
   pub roomy : room0 ≤ room
   pub last_in : IfSome now.last (λ t. t.0 < length script.tasks)
 
@@ -52,22 +51,22 @@ stopped {script} {first} {s0} {whole} {rest} {s} {made0} {made} {now} {h0} {b0} 
     let cut = stops_at script first s0 whole cont s core'.state t (next_event s t) now h0 b0 h b h' stops going in
     let part = cut.1 in
     let made_part : core'.made ≡ made0 + length part.0 = omega (arith, looping.made_is, part.4) in
-    (record { whole = tt; part = cut.0; cause = Rises-then f0 f f' looping.faults rises; count = omega (arith, looping.faults) }, (part.0, part.1, part.2, part.3, made_part))
+    (record { whole = tt; no_fault = tt; part = cut.0; cause = omega (arith, looping.no_fault, rises); count = omega (arith, looping.no_fault) }, (part.0, part.1, part.2, part.3, made_part))
 
 -- a task's move
 pub moved : {script : Script} {first : ℕ} {s0 : State} {whole rest : Played} {s : State} {made0 made : ℕ} {now : Progress} {h0 : Option (List ℕ)} {b0 : List ℕ} {h : Option (List ℕ)} {b : List ℕ} {f0 f room0 room : ℕ}
     (cont : State → Option TaskId → Played) (t : TaskId) (s' : State) (made' : ℕ) (now' : Progress) (h' : Option (List ℕ)) (b' : List ℕ) (f' room' : ℕ)
     → rest ≡ then_play cont s now.last t (next_event s t) → Looping script first s0 whole rest s made0 made now h0 b0 h b f0 f room0 room
-    → Moves script first t (next_event s t) s s' now now' h b h' b' → made' + now.count ≡ made + now'.count → f ≤ f' → room ≤ room' → IsOf script s'
+    → Moves script first t (next_event s t) s s' now now' h b h' b' → made' + now.count ≡ made + now'.count → f' ≡ f → room ≤ room' → IsOf script s'
     → (IfSome now.last (λ u. u.0 < length script.tasks) → IfSome now'.last (λ u. u.0 < length script.tasks))
     → Looping script first s0 whole (cont s' now'.last) s' made0 made' now' h0 b0 h' b' f0 f' room0 room'
-moved {script} {first} {s0} {whole} {rest} {s} {made0} {made} {now} {h0} {b0} {h} {b} cont t s' made' now' h' b' f' room' is looping moves counts le_faults le_room script_is last_in =
+moved {script} {first} {s0} {whole} {rest} {s} {made0} {made} {now} {h0} {b0} {h} {b} cont t s' made' now' h' b' f' room' is looping moves counts no_fault le_room script_is last_in =
     let going = subst (λ (r : Played). Going script first s0 whole r s now.count h0 b0 h b) is looping.going in
     record {
       going = moves_on script first s0 whole cont s s' t (next_event s t) now now' h0 b0 h b h' b' moves going;
       made_is = omega (arith, looping.made_is, counts);
       script_is = script_is;
-      faults = omega (arith, looping.faults);
+      no_fault = no_fault ∙ looping.no_fault;
       roomy = omega (arith, looping.roomy);
       last_in = last_in looping.last_in;
     }
@@ -80,17 +79,12 @@ over {script} {first} {s0} {whole} {rest} {s} {made0} {made} {now} {h0} {b0} {h}
 
 -- what is gone was printed
 pub printed_all : {script : Script} {first : ℕ} {whole : Played} {s : State} {last : Option TaskId} {count : ℕ} {h0 : Option (List ℕ)} {b0 : List ℕ} {h : Option (List ℕ)} {b : List ℕ} {T : Type 0} (x : T) (f0 f : ℕ)
-    → Gone script first whole s last count h0 b0 h b → f0 ≤ f → Prints {T = T} (Ok x) h0 b0 h b f0 f (lines_of script first whole.events)
-printed_all x f0 f gone le = record { whole = gone.printed; part = tt; cause = tt; count = le }
+    → Gone script first whole s last count h0 b0 h b → f ≡ f0 → Prints {T = T} (Ok x) h0 b0 h b f0 f (lines_of script first whole.events)
+printed_all x f0 f gone no_fault = record { whole = gone.printed; no_fault = no_fault; part = tt; cause = tt; count = omega (arith, no_fault) }
 
 -- somebody who may move is a task of the script
 pub chosen_within : (script : Script) (s : State) (last : Option TaskId) (t : TaskId) → IsOf script s → chosen_task s last ≡ Some t → IfSome last (λ u. u.0 < length script.tasks) → t.0 < length script.tasks
-chosen_within script s last t is chosen last_in = subst (λ (n : ℕ). t.0 < n) (IsOf-tasks script s is) (chosen_below s last t chosen (subst (λ (n : ℕ). IfSome last (λ u. u.0 < n)) (sym (IsOf-tasks script s is)) last_in))
-
--- what holds, holds where there was a fault
-pub on_err : {T P : Type 0} (result : Result T Failed) → P → OnErr result P
-on_err (Ok x) p = tt
-on_err (Err e) p = p
+chosen_within script s last t is chosen last_in = subst (λ (n : ℕ). t.0 < n) (IsOf-threads script s is) (chosen_below s last t chosen (subst (λ (n : ℕ). IfSome last (λ u. u.0 < n)) (sym (IsOf-threads script s is)) last_in))
 
 -- one of the turns that are left
 pub chosen-left : (turns turn : ℕ) (s : State) (last : Option TaskId) (t : TaskId) → turn < turns → chosen_task s last ≡ Some t

@@ -9,6 +9,7 @@ use Rattle.std.proofs.lemmas.Fmt.{decimal-digits_value, digits_decimal, first_de
 use Rattle.std.proofs.lemmas.Slice.Eq.{bytes_eq-Decides}
 use Rattle.std.proofs.lemmas.Bool.{leb-true, le-leb}
 use Rattle.rt_script.specs.Words.{◌>>=◌, only_if, number_upto}
+use Rattle.rt_top.specs.declared.options.TheConstants.{MAX_TURNS}
 
 own : IsNumeralModel (λ ds. all_ascii_digits ds ≡ true) (digits_value 10)
 own = numerals_by_value _ tells_all_ascii_digits
@@ -52,7 +53,7 @@ digits_of most word n small s = subst (λ ds. all_ascii_digits ds ≡ true) s.te
 pub some_of : (most : ℕ) (word : List ℕ) (n : ℕ) → most < 2 ^ 64 → Spells most word n → 0 < length word
 some_of most word n small s = subst (λ (ds : List ℕ). 0 < length ds) s.text (decimal_nonempty n (omega (arith, s.within)))
 
--- no other byte stands in front
+-- it begins with no other byte
 pub first_of : (most : ℕ) (word : List ℕ) (n c : ℕ) → most < 2 ^ 64 → Spells most word n → c < 48 → get_or word 0 0 ≢ c
 first_of most word n c small s lt = not_in_digits own word c (digits_of most word n small s) (λ r. omega arith) 0 (some_of most word n small s)
 
@@ -71,13 +72,13 @@ pub number_upto-zeros : (most : ℕ) (word : List ℕ) → most < 2 ^ 64 → get
 number_upto-zeros most word small z long =
     none_if _ (λ n e. let s = spells most word n e in no_zero n word (omega (arith, s.within)) s.text z long)
 
--- what std reads from a word with no plus and no zero in front
-pub number_upto-parsed : {E : Type 0} (word : List ℕ) (r : Result ℕ E) → get_or word 0 0 ≢ 43 → (get_or word 0 0 ≡ 48 → length word ≡ 1) → ParsesUnsigned 32 10 word r → result_ok r ≡ number_upto 4294967295 word
+-- what std reads from a word with no plus and no leading zero
+pub number_upto-parsed : {E : Type 0} (word : List ℕ) (r : Result ℕ E) → get_or word 0 0 ≢ 43 → (get_or word 0 0 ≡ 48 → length word ≡ 1) → ParsesUnsigned 32 10 word r → result_ok r ≡ number_upto MAX_TURNS word
 number_upto-parsed {E = E} word (Ok x) plain led parses =
     let is = parse_plain own {E = E} 32 word (Ok x) parses plain in
     let v : ℕ = digits_value 10 word in
     let text : decimal v ≡ word = decimal-digits_value own word is.0.0 is.0.1 led (omega (arith, is.0.2)) in
-    ap Some is.1 ∙ sym (spelled 4294967295 word text (omega (arith, is.0.2)))
+    ap Some is.1 ∙ sym (spelled MAX_TURNS word text (omega (arith, is.0.2)))
 number_upto-parsed {E = E} word (Err e) plain led parses =
     let is = parse_plain own {E = E} 32 word (Err e) parses plain in
-    sym (none_if _ (λ n h. let s = spells 4294967295 word n h in is (digits_of 4294967295 word n (omega arith) s, some_of 4294967295 word n (omega arith) s, omega (arith, s.within, s.value))))
+    sym (none_if _ (λ n h. let s = spells MAX_TURNS word n h in is (digits_of MAX_TURNS word n (omega arith) s, some_of MAX_TURNS word n (omega arith) s, omega (arith, s.within, s.value))))

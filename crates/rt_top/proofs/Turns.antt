@@ -12,11 +12,11 @@ use Rattle.rt_model.specs.declared.event.Event.{Event}
 use Rattle.rt_model.specs.State.{State, thread_part}
 use Rattle.rt_model.specs.Parts.{ThreadPart, call_of}
 use Rattle.rt_model.specs.NextEvent.{next_event, event_of}
-use Rattle.rt_model.specs.After.{state_after}
+use Rattle.rt_model.specs.StateAfter.{state_after}
 use Rattle.rt_model.specs.Run.{is_enabled, is_at_end, is_done, ended_of, lowest, or_else}
 use Rattle.rt_model.specs.Order.{Played, in_walk, then_play, if_enabled, is_walking, chosen_task, play_chosen, chosen}
 use Rattle.rt_model.proofs.Lowest.{lowest-below}
-use Rattle.rt_top.proofs.Asked.{both}
+use Rattle.rt_top.proofs.OptionForms.{both}
 use Rattle.rt_top.specs.Turns.{HasNext, IsCutShort}
 
 -- ---- the lowest number that passes a test

@@ -2,19 +2,20 @@
 use Rattle.std.specs.Prelude.{◌≡◌, ◌⊎◌, ◌↔◌, ℕ, ◌+◌, ◌≤◌, List, [], length, Option, Some, None, unwrap_or, Result, Ok, Err}
 use Rattle.rt_base.specs.declared.ended.Ended.{Ended}
 use Rattle.rt_base.specs.declared.ended.Ended.TheVariants as ends
-use Rattle.rt_base.specs.Outside.{Rises, IsAtEnd, Appends, AppendsFront}
+use Rattle.rt_base.specs.Outside.{Rises, IsAtEnd, Appends, AppendsPrefix}
 use Rattle.rt_base.specs.Script.{Script, HasOneMutex, budget_of}
 use Rattle.rt_model.specs.State.{start}
 use Rattle.rt_model.specs.Run.{IsRun, after, ended_of}
 use Rattle.rt_model.specs.Order.{replayed}
-use Rattle.rt_model.specs.Sound.{IsSound}
+use Rattle.rt_model.specs.laws.Sound.{IsSound}
 use Rattle.rt_script.specs.Grammar.{FaultAt, script_of}
 use Rattle.rt_core.specs.Text.{replay_text}
 use Rattle.rt_top.specs.declared.options.Options.{Options}
 use Rattle.rt_top.specs.declared.status.Status.{Status}
 use Rattle.rt_top.specs.declared.status.Status.TheVariants as statuses
-use Rattle.rt_top.specs.Message.{usage_line, read_fault_line, too_long_line, bad_script_line, refusal_of}
-use Rattle.rt_top.specs.Turns.{IsCutShort, behind_picks}
+use Rattle.rt_top.specs.declared.top.TheConstants.{MAX_BYTES}
+use Rattle.rt_top.specs.Message.{usage_line, read_fault_line, too_long_line, bad_script_line, bad_script_fault}
+use Rattle.rt_top.specs.Turns.{IsCutShort, after_picks}
 
 -- the sink of a call: what it held before and holds after it, and how often it had failed
 pub record Output : Type 0 where
@@ -29,34 +30,31 @@ pub record Input : Type 0 where
   pub faults_before : ℕ
   pub faults_after : ℕ
 
--- the longest script, in bytes
-abbrev pub max_bytes : ℕ
-max_bytes = 1048576
-
--- the line was written, or, where the sink failed, some front of it
+-- the line was written without a fault, or, where the sink failed, some prefix of it
 abbrev pub IsTold : List ℕ → Output → Type 0
 IsTold line output =
-    Appends output.held_before line output.held_after
-    ⊎ (Rises output.faults_before output.faults_after × AppendsFront output.held_before line output.held_after)
+    (Appends output.held_before line output.held_after × (output.faults_after ≡ output.faults_before))
+    ⊎ (Rises output.faults_before output.faults_after × AppendsPrefix output.held_before line output.held_after)
 
 -- how many events the stated order makes at most: what the words say, and else the budget
 abbrev pub turns_of : Options → Script → ℕ
 turns_of options script = unwrap_or options.turns (budget_of script)
 
--- the replay of the script with so many turns is a run, and sound; its text was written, and it ended so
+-- the replay of the script with so many turns is a run, and sound; its text was written without a fault, and it ended so
 pub record IsPrinted (script : Script) (turns : ℕ) (ended : Ended) (output : Output) : Type 0 where
   pub run : IsRun (start script) (replayed script turns).events
   pub sound : IsSound script (replayed script turns).events
   pub text : Appends output.held_before (replay_text script turns) output.held_after
+  pub no_fault : output.faults_after ≡ output.faults_before
   pub ends_so : ended_of (after (start script) (replayed script turns).events) ≡ ended
-  pub limit : (ended ≡ ends.Limit) ↔ IsCutShort turns (behind_picks script turns)
+  pub limit : (ended ≡ ends.Limit) ↔ IsCutShort turns (after_picks script turns)
 
--- the sink failed, and holds some front of the text of the script's replay, which is a run, and sound
+-- the sink failed, and holds some prefix of the text of the script's replay, which is a run, and sound
 pub record IsCut (script : Script) (turns : ℕ) (output : Output) : Type 0 where
   pub cause : Rises output.faults_before output.faults_after
   pub run : IsRun (start script) (replayed script turns).events
   pub sound : IsSound script (replayed script turns).events
-  pub text : AppendsFront output.held_before (replay_text script turns) output.held_after
+  pub text : AppendsPrefix output.held_before (replay_text script turns) output.held_after
 
 -- what an answer says of the replay of a script
 abbrev pub Replays : Status → Script → ℕ → Output → Type 0
@@ -73,28 +71,29 @@ IsNotPlayed (Err fault) = Unit {0}
 IsNotPlayed (Ok script) = HasOneMutex script → ⊥
 
 -- the answer that a script isn't played for that fault, and its line
-abbrev pub Refuses : Status → FaultAt → Output → Type 0
-Refuses statuses.BadScript fault output = IsTold (bad_script_line fault) output
-Refuses statuses.NoMemory fault output = Unit {0}
-Refuses _ fault output = ⊥
+abbrev pub AnswersBadScript : Status → FaultAt → Output → Type 0
+AnswersBadScript statuses.BadScript fault output = IsTold (bad_script_line fault) output
+AnswersBadScript statuses.NoMemory fault output = Unit {0}
+AnswersBadScript _ fault output = ⊥
 
 -- what an answer says of an input that was read whole: no script that is played, or a script and its replay
 abbrev pub AnswersInput : Options → Status → List ℕ → Output → Type 0
-AnswersInput options statuses.BadScript input output = IsNotPlayed (script_of input) × IsTold (bad_script_line (refusal_of (script_of input))) output
+AnswersInput options statuses.BadScript input output = IsNotPlayed (script_of input) × IsTold (bad_script_line (bad_script_fault (script_of input))) output
 AnswersInput options statuses.NoMemory input output = Unit {0}
 AnswersInput options status input output = (script : Script) × (script_of input ≡ Ok script) × HasOneMutex script × Replays status script (turns_of options script) output
 
--- the input was read to its end, within the limit
+-- the input was read to its end, within the limit and without a fault
 pub record IsWhole (bytes : List ℕ) (input : Input) : Type 0 where
   pub at_end : IsAtEnd input.left
-  pub short : length bytes ≤ max_bytes
+  pub short : length bytes ≤ MAX_BYTES
+  pub no_fault : input.faults_after ≡ input.faults_before
 
 -- what an answer says of the bytes that were read and of the outside, where the words ask for a replay
 abbrev pub AnswersReplay : Options → Status → List ℕ → Input → Output → Type 0
 AnswersReplay options statuses.Usage bytes input output = ⊥
-AnswersReplay options statuses.ReadFault bytes input output = Rises input.faults_before input.faults_after × (length bytes ≤ max_bytes) × IsTold read_fault_line output
-AnswersReplay options statuses.TooLong bytes input output = (length bytes ≡ max_bytes + 1) × IsTold too_long_line output
-AnswersReplay options statuses.NoMemory bytes input output = length bytes ≤ max_bytes + 1
+AnswersReplay options statuses.ReadFault bytes input output = Rises input.faults_before input.faults_after × (length bytes ≤ MAX_BYTES) × IsTold read_fault_line output
+AnswersReplay options statuses.TooLong bytes input output = (length bytes ≡ MAX_BYTES + 1) × (input.faults_after ≡ input.faults_before) × IsTold too_long_line output
+AnswersReplay options statuses.NoMemory bytes input output = (length bytes ≤ MAX_BYTES + 1) × (input.faults_after ≡ input.faults_before)
 AnswersReplay options status bytes input output = IsWhole bytes input × AnswersInput options status bytes output
 
 -- what an answer says where the words ask for that, or aren't taken

@@ -36,6 +36,6 @@ abbrev pub bad_script_line : FaultAt → List ℕ
 bad_script_line fault = codes "bad script: line " ++ decimal fault.line ++ codes ", fault " ++ decimal (fault_number fault.why) ++ 10 ∷ []
 
 -- the first fault of a text, and for a script that the machine doesn't play yet a wrong kind in no line
-abbrev pub refusal_of : Result Script FaultAt → FaultAt
-refusal_of (Err fault) = fault
-refusal_of (Ok script) = record { line = 0; why = WrongKind }
+abbrev pub bad_script_fault : Result Script FaultAt → FaultAt
+bad_script_fault (Err fault) = fault
+bad_script_fault (Ok script) = record { line = 0; why = WrongKind }

@@ -1,11 +1,11 @@
 -- Events made and told.
 use Rattle.std.specs.Prelude.{◌≡◌, ℕ, ◌+◌, List, [], ◌++◌, Option, Some, None, length}
-use Rattle.rt_base.specs.Outside.{AppendsFront}
+use Rattle.rt_base.specs.Outside.{AppendsPrefix}
 use Rattle.rt_base.specs.Script.{Script}
 use Rattle.rt_base.specs.declared.id.TaskId.{TaskId}
 use Rattle.rt_model.specs.declared.event.Event.{Event}
 use Rattle.rt_model.specs.State.{State}
-use Rattle.rt_model.specs.After.{state_after}
+use Rattle.rt_model.specs.StateAfter.{state_after}
 use Rattle.rt_model.specs.Run.{after}
 use Rattle.rt_core.specs.Made.{Made}
 use Rattle.rt_events.specs.Entry.{entry}
@@ -15,7 +15,7 @@ use Rattle.rt_top.specs.Printing.{HandsOn}
 
 -- some first part of these events was made, and counted
 abbrev pub IsPartMade : Made → Made → List Event → Type 0
-IsPartMade old new events = (front : List Event) × (rest : List Event) × (front ++ rest ≡ events) × (new.state ≡ after old.state front) × (new.made ≡ old.made + length front)
+IsPartMade old new events = (first : List Event) × (rest : List Event) × (first ++ rest ≡ events) × (new.state ≡ after old.state first) × (new.made ≡ old.made + length first)
 
 -- one event more, of task t
 abbrev pub with_move : Progress → TaskId → Progress
@@ -32,4 +32,4 @@ Moves script first t (Some e) old new so_far now held_before gathered_before hel
 abbrev pub Stops : Script → ℕ → Option Event → State → State → Progress → Option (List ℕ) → List ℕ → Option (List ℕ) → Type 0
 Stops script first None old new so_far held_before gathered_before held_after = ⊥
 Stops script first (Some e) old new so_far held_before gathered_before held_after =
-    (new ≡ old) × AppendsFront held_before (gathered_before ++ line_of script (entry (first + so_far.count) e)) held_after
+    (new ≡ old) × AppendsPrefix held_before (gathered_before ++ line_of script (entry (first + so_far.count) e)) held_after

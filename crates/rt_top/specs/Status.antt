@@ -6,16 +6,16 @@ use Rattle.rt_top.specs.declared.status.Status.{Status}
 use Rattle.rt_top.specs.declared.status.Status.TheVariants.{Done, Usage, BadScript, Stuck, Limit, ReadFault, WriteFault, NoMemory, TooLong}
 
 -- the exit status of each answer
-abbrev pub number_of : Status → ℕ
-number_of Done = 0
-number_of Usage = 2
-number_of BadScript = 3
-number_of Stuck = 4
-number_of Limit = 5
-number_of ReadFault = 6
-number_of WriteFault = 7
-number_of NoMemory = 8
-number_of TooLong = 9
+abbrev pub status_number : Status → ℕ
+status_number Done = 0
+status_number Usage = 2
+status_number BadScript = 3
+status_number Stuck = 4
+status_number Limit = 5
+status_number ReadFault = 6
+status_number WriteFault = 7
+status_number NoMemory = 8
+status_number TooLong = 9
 
 -- the answer of a run that was printed whole
 abbrev pub status_of : Ended → Status

@@ -1,4 +1,4 @@
--- The events that the stated order makes behind the picks.
+-- The events that the stated order makes after the picks.
 use Rattle.std.specs.Prelude.{◌≡◌, ℕ, ◌<◌, true, length, None}
 use Rattle.rt_base.specs.Script.{Script}
 use Rattle.rt_model.specs.State.{State, start}
@@ -14,7 +14,7 @@ abbrev pub IsCutShort : ℕ → Played → Type 0
 IsCutShort turns played = (length played.events ≡ turns) × HasNext played.state
 
 -- what follows the picks: at most so many events by the stated order
-abbrev pub behind_picks : Script → ℕ → Played
-behind_picks script turns =
-    let front = picked script.picks (start script) None in
-    chosen turns front.state front.last
+abbrev pub after_picks : Script → ℕ → Played
+after_picks script turns =
+    let played = picked script.picks (start script) None in
+    chosen turns played.state played.last

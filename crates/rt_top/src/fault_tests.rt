@@ -101,7 +101,7 @@ fn drip_with_faults<R: Abort + Threads + Sync>(
 }
 
 /// The first bytes of a text, that many or all.
-fn front(text: &[u8], count: u32) -> &[u8] {
+fn prefix(text: &[u8], count: u32) -> &[u8] {
     text.split_at(text.len().min(count as usize)).0
 }
 
@@ -152,7 +152,7 @@ fn each_write_fails(rt: HostRuntime) -> Result<(), Fail> {
     for fail in 0..190 {
         let (status, bytes) = drip_with_faults(&rt, alloc, "replay", INVERSION, NEVER, fail)?;
         assert_eq!(rt; status, 7);
-        assert_eq!(rt; bytes.as_slice(), front(INVERSION_JOURNAL, fail));
+        assert_eq!(rt; bytes.as_slice(), prefix(INVERSION_JOURNAL, fail));
     }
     let (status, bytes) = drip_with_faults(&rt, alloc, "replay", INVERSION, NEVER, NEVER)?;
     assert_eq!(rt; status, 0);
@@ -180,7 +180,7 @@ fn message_whose_write_fails_keeps_its_status(rt: HostRuntime) -> Result<(), Fai
         for fail in 0..9 {
             let (told, bytes) = drip_with_faults(&rt, alloc, word, text, read, fail)?;
             assert_eq!(rt; told, status);
-            assert_eq!(rt; bytes.as_slice(), front(line.as_bytes(), fail));
+            assert_eq!(rt; bytes.as_slice(), prefix(line.as_bytes(), fail));
         }
     }
     Ok(())

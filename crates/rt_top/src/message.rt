@@ -8,7 +8,7 @@ use rt_script::Why;
 use std::alloc::{AllocError, Global};
 
 // The number of what is wrong with a line of a script.
-fn number_of(why: Why) -> u8
+fn fault_number(why: Why) -> u8
     ensures { result ≡ fault_number why }
 {
     match why {
@@ -30,11 +30,11 @@ fn number_of(why: Why) -> u8
 pub fn bad_script(alloc: Global, line: u32, why: Why) -> Result<String, AllocError>
     ensures { IfOk result (λ text. string_bytes text ≡ bad_script_line (record { line = line; why = why })) }
 {
-    let number = number_of(why);
+    let number = fault_number(why);
     format!(in alloc; "bad script: line {line}, fault {number}\n")
 }
 
-/// Writes a line. Where the sink fails, some front of it was written.
+/// Writes a line. Where the sink fails, some prefix of it was written.
 pub fn tell<K: Sink>(line: &[u8], out: &mut K)
     ensures told { IsTold line.now (record { held_before = K.held out.old; held_after = K.held out.new; faults_before = K.faults out.old; faults_after = K.faults out.new }) }
     ensures count { K.faults out.old ≤ K.faults out.new }

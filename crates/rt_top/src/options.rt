@@ -1,11 +1,14 @@
 ghost use Rattle.std.specs.Prelude.{◌≡◌, map, string_bytes, codes, Some, IfOk, IfErr};
 ghost use Rattle.clap.specs.Words.{found_of, kind_of, one_text};
-ghost use Rattle.rt_top.specs.Words.{IsAccepted, IsTurns, asked};
+ghost use Rattle.rt_top.specs.Words.{IsAccepted, IsTurns, options_of};
 
 use clap::error::ErrorKind;
 use clap::{Arg, ArgMatches, Command, Error};
 use rt_base::NoMemory;
 use std::alloc::Global;
+
+/// The greatest number that `--turns` takes.
+pub const MAX_TURNS: u32 = u32::MAX;
 
 /// What the words ask for: a replay.
 #[derive(Clone, Copy, Debug, PartialEq, Eq)]
@@ -17,7 +20,7 @@ pub struct Options {
 // The words as `clap` reads them.
 fn matches<'a>(alloc: Global, words: &'a [String]) -> Result<ArgMatches<'a>, Error>
     requires { IsAccepted (map (λ word. string_bytes word) words.now) }
-    ensures turns { IfOk result (λ found. IsTurns (one_text (found_of found) (codes "turns")) (asked (map (λ word. string_bytes word) words.now))) }
+    ensures turns { IfOk result (λ found. IsTurns (one_text (found_of found) (codes "turns")) (options_of (map (λ word. string_bytes word) words.now))) }
     ensures err { IfErr result (λ e. kind_of e ≡ ErrorKind.OutOfMemory) }
 {
     let command = Arg::new(alloc, "command").required(true);
@@ -36,7 +39,7 @@ fn matches<'a>(alloc: Global, words: &'a [String]) -> Result<ArgMatches<'a>, Err
 /// What the words ask for, read by `clap`.
 pub fn options_in(alloc: Global, words: &[String]) -> Result<Options, NoMemory>
     requires { IsAccepted (map (λ word. string_bytes word) words.now) }
-    ensures { IfOk result (λ options. asked (map (λ word. string_bytes word) words.now) ≡ Some options) }
+    ensures { IfOk result (λ options. options_of (map (λ word. string_bytes word) words.now) ≡ Some options) }
 {
     match matches(alloc, words) {
         Ok(found) => Ok(Options {

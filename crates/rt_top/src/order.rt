@@ -13,12 +13,12 @@ pub fn pick_next(core: &Core, last: Option<TaskId>) -> Option<TaskId>
 {
     match still_enabled(core, last) {
         Some(t) => Some(t),
-        None => next_of_others(core),
+        None => lowest_walking_or_enabled(core),
     }
 }
 
 // The lowest task whose chain walk is unfinished; else the lowest one.
-fn next_of_others(core: &Core) -> Option<TaskId>
+fn lowest_walking_or_enabled(core: &Core) -> Option<TaskId>
     ensures { result ≡ or_else (lowest (is_walking core.now.state) (length core.now.state.threads)) (lowest (is_enabled core.now.state) (length core.now.state.threads)) }
 {
     match lowest_walking(core) {

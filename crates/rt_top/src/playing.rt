@@ -1,9 +1,9 @@
 // A run made and told: the picks, and the stated choice.
 ghost use Rattle.std.specs.Prelude.{◌≡◌, ◌↔◌, ◌+◌, ◌^◌, ◌<◌, ◌≤◌, [], length, vec_len, vec_capacity, IfOk, IfSome, OnOk, OnErr, Some, None};
 ghost use Rattle.rt_base.specs.Outside.{Rises, Writes};
-ghost use Rattle.rt_model.specs.Laws.{IsOf};
+ghost use Rattle.rt_model.specs.laws.Shape.{IsOf};
 ghost use Rattle.rt_model.specs.NextEvent.{next_event};
-ghost use Rattle.rt_model.specs.After.{state_after};
+ghost use Rattle.rt_model.specs.StateAfter.{state_after};
 ghost use Rattle.rt_model.specs.Order.{picked, chosen};
 ghost use Rattle.rt_model.specs.Run.{ended_of};
 ghost use Rattle.rt_events.specs.Entry.{entry};
@@ -15,7 +15,7 @@ ghost use Rattle.rt_top.specs.Playing.{IsPartMade, Moves, Stops};
 ghost use Rattle.rt_top.specs.Turns.{IsCutShort};
 
 use crate::order::pick_next;
-use crate::printing::{LINE_ROOM, hand_over, make_room};
+use crate::printing::{LINE_ROOM, flush, flush_if_full};
 use crate::progress::Progress;
 use rt_base::{Ended, Failed, Sink, TaskId};
 use rt_core::Core;
@@ -44,7 +44,7 @@ fn make_event<K: Sink>(
     ensures err { OnErr result (core.new ≡ core.old) }
     ensures capacity { vec_capacity buf.old ≤ vec_capacity buf.new }
 {
-    make_room(buf, out)?;
+    flush_if_full(buf, out)?;
     write_line(script, &entry_of(number, e), buf);
     core.apply(e);
     Ok(())
@@ -69,6 +69,7 @@ fn play<K: Sink>(
     ensures made { IfOk result (λ now. core.new.made + so_far.count ≡ core.old.made + now.count) }
     ensures few { IfOk result (λ now. now.count ≤ so_far.count + 1) }
     ensures within { IfOk result (λ now. IfSome so_far.last (λ u. u.0 < length script.now.tasks) → IfSome now.last (λ u. u.0 < length script.now.tasks)) }
+    ensures no_fault { OnOk result (K.faults out.new ≡ K.faults out.old) }
     ensures stops { OnErr result (Stops script.now first (next_event core.old.state t) core.old.state core.new.state so_far (K.held out.old) buf.old.items (K.held out.new)) }
     ensures err { OnErr result (core.new ≡ core.old) }
     ensures cause { OnErr result (Rises (K.faults out.old) (K.faults out.new)) }
@@ -147,7 +148,7 @@ pub fn run_picks<K: Sink>(
     ensures capacity { vec_capacity buf.old ≤ vec_capacity buf.new }
 {
     let played = play_picks(core, script, buf, out)?;
-    hand_over(buf, out)?;
+    flush(buf, out)?;
     Ok((played.count, played.last))
 }
 
@@ -215,12 +216,12 @@ pub fn finish<K: Sink>(
     ensures capacity { vec_capacity buf.old ≤ vec_capacity buf.new }
 {
     play_chosen(core, script, last, turns, first, buf, out)?;
-    hand_over(buf, out)?;
-    Ok(how_it_stands(core))
+    flush(buf, out)?;
+    Ok(ended(core))
 }
 
 /// How a run stands that leaves this core.
-fn how_it_stands(core: &Core) -> Ended
+fn ended(core: &Core) -> Ended
     ensures { result ≡ ended_of core.now.state }
 {
     if core.done() {

@@ -7,8 +7,8 @@ use rt_base::{Failed, Sink, write_whole};
 /// The room that the longest line needs.
 pub const LINE_ROOM: usize = 4096;
 
-/// Hands over what is gathered.
-pub fn hand_over<K: Sink>(buf: &mut Vec<u8>, out: &mut K) -> Result<(), Failed>
+/// Writes what is gathered to the sink.
+pub fn flush<K: Sink>(buf: &mut Vec<u8>, out: &mut K) -> Result<(), Failed>
     ensures prints { Prints result (K.held out.old) buf.old.items (K.held out.new) buf.new.items (K.faults out.old) (K.faults out.new) [] }
     ensures empty { OnOk result (buf.new.items ≡ []) }
     ensures capacity { vec_capacity buf.old ≤ vec_capacity buf.new }
@@ -18,8 +18,8 @@ pub fn hand_over<K: Sink>(buf: &mut Vec<u8>, out: &mut K) -> Result<(), Failed>
     Ok(())
 }
 
-/// Hands over what is gathered, where there isn't room for one more line.
-pub fn make_room<K: Sink>(buf: &mut Vec<u8>, out: &mut K) -> Result<(), Failed>
+/// Writes what is gathered to the sink, where there isn't room for one more line.
+pub fn flush_if_full<K: Sink>(buf: &mut Vec<u8>, out: &mut K) -> Result<(), Failed>
     requires { LINE_ROOM ≤ vec_capacity buf.old }
     ensures prints { Prints result (K.held out.old) buf.old.items (K.held out.new) buf.new.items (K.faults out.old) (K.faults out.new) [] }
     ensures kept { vec_len buf.old + LINE_ROOM ≤ vec_capacity buf.old → (buf.new.items ≡ buf.old.items) × (out.new ≡ out.old) }
@@ -27,7 +27,7 @@ pub fn make_room<K: Sink>(buf: &mut Vec<u8>, out: &mut K) -> Result<(), Failed>
     ensures capacity { vec_capacity buf.old ≤ vec_capacity buf.new }
 {
     if buf.capacity() - buf.len() < LINE_ROOM {
-        hand_over(buf, out)?;
+        flush(buf, out)?;
     }
     Ok(())
 }

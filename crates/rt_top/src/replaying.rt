@@ -2,17 +2,17 @@
 ghost use Rattle.std.specs.Prelude.{◌≡◌, ◌↔◌, ◌+◌, ◌<◌, ◌≤◌, [], ◌++◌, length, vec_capacity, IfOk, OnOk, None};
 ghost use Rattle.rt_base.specs.Outside.{Writes};
 ghost use Rattle.rt_base.specs.Script.{IsScript};
-ghost use Rattle.rt_model.specs.Laws.{IsOf};
+ghost use Rattle.rt_model.specs.laws.Shape.{IsOf};
 ghost use Rattle.rt_model.specs.State.{start};
 ghost use Rattle.rt_model.specs.Run.{after, ended_of};
 ghost use Rattle.rt_model.specs.Order.{replayed};
 ghost use Rattle.rt_events.specs.Journal.{header, lines_of};
 ghost use Rattle.rt_core.specs.Text.{replay_text};
-ghost use Rattle.rt_top.specs.Turns.{IsCutShort, behind_picks};
-ghost use Rattle.rt_top.specs.Words.{most_turns};
+ghost use Rattle.rt_top.specs.Turns.{IsCutShort, after_picks};
 
+use crate::options::MAX_TURNS;
 use crate::playing::{finish, run_picks};
-use crate::printing::{LINE_ROOM, hand_over};
+use crate::printing::{LINE_ROOM, flush};
 use crate::reporting::write_report;
 use rt_base::{Ended, Failed, Sink};
 use rt_core::Core;
@@ -28,7 +28,7 @@ fn print_header<K: Sink>(buf: &mut Vec<u8>, out: &mut K) -> Result<(), Failed>
     ensures capacity { vec_capacity buf.old ≤ vec_capacity buf.new }
 {
     write_header(buf);
-    hand_over(buf, out)
+    flush(buf, out)
 }
 
 // Writes the journal of a script's replay: the picks, then at most so many events in the stated order.
@@ -41,7 +41,7 @@ fn print_journal<K: Sink>(
 ) -> Result<Ended, Failed>
     requires start { core.old ≡ record { state = start script.now; made = 0 } }
     requires valid { IsScript script.now }
-    requires turns { turns ≤ most_turns }
+    requires turns { turns ≤ MAX_TURNS }
     requires script { IsOf script.now core.old.state }
     requires empty { buf.old.items ≡ [] }
     requires room { LINE_ROOM ≤ vec_capacity buf.old }
@@ -49,7 +49,7 @@ fn print_journal<K: Sink>(
         (header ++ lines_of script.now 1 (replayed script.now turns).events) }
     ensures state { OnOk result (core.new.state ≡ (replayed script.now turns).state) }
     ensures ended { IfOk result (λ ended. ended ≡ ended_of core.new.state) }
-    ensures limit { IfOk result (λ ended. (ended ≡ Ended.Limit) ↔ IsCutShort turns (behind_picks script.now turns)) }
+    ensures limit { IfOk result (λ ended. (ended ≡ Ended.Limit) ↔ IsCutShort turns (after_picks script.now turns)) }
     ensures script { IsOf script.now core.new.state }
     ensures buf { OnOk result (buf.new.items ≡ []) }
     ensures capacity { vec_capacity buf.old ≤ vec_capacity buf.new }
@@ -59,7 +59,7 @@ fn print_journal<K: Sink>(
     finish(core, script, last, turns, count + 1, buf, out)
 }
 
-/// Writes the text of a script's replay with at most so many events behind the picks, and answers how it
+/// Writes the text of a script's replay with at most so many events after the picks, and answers how it
 /// ended.
 pub fn print_replay<K: Sink>(
     core: &mut Core,
@@ -70,14 +70,14 @@ pub fn print_replay<K: Sink>(
 ) -> Result<Ended, Failed>
     requires start { core.old ≡ record { state = start script.now; made = 0 } }
     requires valid { IsScript script.now }
-    requires turns { turns ≤ most_turns }
+    requires turns { turns ≤ MAX_TURNS }
     requires script { IsOf script.now core.old.state }
     requires empty { buf.old.items ≡ [] }
     requires room { LINE_ROOM ≤ vec_capacity buf.old }
     ensures writes { Writes result (K.held out.old) (K.held out.new) (K.faults out.old) (K.faults out.new)
         (replay_text script.now turns) }
     ensures ended { IfOk result (λ ended. ended_of (after (start script.now) (replayed script.now turns).events) ≡ ended) }
-    ensures limit { IfOk result (λ ended. (ended ≡ Ended.Limit) ↔ IsCutShort turns (behind_picks script.now turns)) }
+    ensures limit { IfOk result (λ ended. (ended ≡ Ended.Limit) ↔ IsCutShort turns (after_picks script.now turns)) }
 {
     let ended = print_journal(core, script, turns, buf, out)?;
     write_report(core, script, ended, buf, out)?;

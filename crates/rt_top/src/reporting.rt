@@ -1,11 +1,11 @@
 ghost use Rattle.std.specs.Prelude.{◌≡◌, ◌≤◌, [], ◌++◌, vec_capacity, OnOk};
 ghost use Rattle.rt_base.specs.Outside.{Writes};
-ghost use Rattle.rt_model.specs.Laws.{IsOf};
+ghost use Rattle.rt_model.specs.laws.Shape.{IsOf};
 ghost use Rattle.rt_core.specs.Report.{report_of};
 ghost use Rattle.rt_events.specs.Journal.{end_line};
 ghost use Rattle.rt_top.specs.Printing.{Prints};
 
-use crate::printing::{LINE_ROOM, hand_over, make_room};
+use crate::printing::{LINE_ROOM, flush, flush_if_full};
 use rt_base::{Ended, Failed, Sink};
 use rt_core::Core;
 use rt_events::write_end_line;
@@ -27,12 +27,12 @@ pub fn write_report<K: Sink>(
     ensures capacity { vec_capacity buf.old ≤ vec_capacity buf.new }
 {
     write_end_line(ended, buf);
-    gather_report(core, script, buf, out)?;
-    hand_over(buf, out)
+    push_report(core, script, buf, out)?;
+    flush(buf, out)
 }
 
-// Gathers the lines of the report.
-fn gather_report<K: Sink>(
+// Pushes the lines of the report.
+fn push_report<K: Sink>(
     core: &Core,
     script: &Script,
     buf: &mut Vec<u8>,
@@ -44,7 +44,7 @@ fn gather_report<K: Sink>(
     ensures capacity { vec_capacity buf.old ≤ vec_capacity buf.new }
 {
     for i in 0..script.tasks() + script.locks() {
-        make_room(buf, out)?;
+        flush_if_full(buf, out)?;
         core.report_line(script, i, buf);
     }
     Ok(())

@@ -1,5 +1,5 @@
 ghost use Rattle.std.specs.Prelude.{◌≡◌};
-ghost use Rattle.rt_top.specs.Status.{number_of, status_of};
+ghost use Rattle.rt_top.specs.Status.{status_number, status_of};
 
 use rt_base::Ended;
 
@@ -14,7 +14,7 @@ pub enum Status {
     BadScript,
     /// No task has a next event, and some task isn't at the end of its calls.
     Stuck,
-    /// So many events were made behind the picks as may be, and some task has a next event.
+    /// So many events were made after the picks as may be, and some task has a next event.
     Limit,
     /// The source failed.
     ReadFault,
@@ -29,7 +29,7 @@ pub enum Status {
 impl Status {
     /// The exit status of the program.
     pub fn number(self) -> u8
-        ensures { result ≡ number_of self }
+        ensures { result ≡ status_number self }
     {
         match self {
             Status::Done => 0,

@@ -2,13 +2,13 @@ ghost use Rattle.std.specs.Prelude.{◌≡◌, ◌≢◌, ◌↔◌, ◌≤◌, 
 ghost use Rattle.rt_base.specs.Outside.{Takes};
 ghost use Rattle.rt_base.specs.Script.{HasOneMutex, IsScript};
 ghost use Rattle.rt_script.specs.Grammar.{FaultAt};
-ghost use Rattle.rt_top.specs.Words.{IsAccepted, asked, most_turns};
-ghost use Rattle.rt_top.specs.Answer.{Answers, AnswersReplay, AnswersInput, Replays, Refuses, turns_of};
-ghost use Rattle.rt_top.specs.Status.{number_of};
+ghost use Rattle.rt_top.specs.Words.{IsAccepted, options_of};
+ghost use Rattle.rt_top.specs.Answer.{Answers, AnswersReplay, AnswersInput, Replays, AnswersBadScript, turns_of};
+ghost use Rattle.rt_top.specs.Status.{status_number};
 ghost use Rattle.rt_top.specs.declared.status.Status.{Status};
 
 use crate::message::{bad_script, tell, tell_read_fault, tell_too_long, tell_usage};
-use crate::options::{Options, options_in};
+use crate::options::{MAX_TURNS, Options, options_in};
 use crate::replaying::print_replay;
 use crate::status::Status;
 use crate::words::is_accepted;
@@ -41,9 +41,9 @@ pub fn rtlab<R: Threads + Sync, S: Source, K: Sink, T: Turnstile + Sync>(
     ensures unread { result ≡ 2 → src.new ≡ src.old }
 
     // One list of bytes stands for those that were read, and what the answer says is true of it.
-    ensures outcome { (status : Status) × (bytes : List ℕ) × (result ≡ number_of status)
+    ensures outcome { (status : Status) × (bytes : List ℕ) × (result ≡ status_number status)
         × Takes (S.left src.old) bytes (S.left src.new)
-        × Answers (asked (map (λ word. string_bytes word) words.now)) status bytes (record { left = S.left src.new; faults_before = S.faults src.old; faults_after = S.faults src.new })
+        × Answers (options_of (map (λ word. string_bytes word) words.now)) status bytes (record { left = S.left src.new; faults_before = S.faults src.old; faults_after = S.faults src.new })
         (record { held_before = K.held out.old; held_after = K.held out.new; faults_before = K.faults out.old; faults_after = K.faults out.new }) }
 
     // All memory is taken before the first byte is written.
@@ -60,7 +60,7 @@ fn command<S: Source, K: Sink>(alloc: Global, words: &[String], src: &mut S, out
     ensures unread { result ≡ Status.Usage → src.new ≡ src.old }
     ensures outcome { (bytes : List ℕ)
         × Takes (S.left src.old) bytes (S.left src.new)
-        × Answers (asked (map (λ word. string_bytes word) words.now)) result bytes (record { left = S.left src.new; faults_before = S.faults src.old; faults_after = S.faults src.new })
+        × Answers (options_of (map (λ word. string_bytes word) words.now)) result bytes (record { left = S.left src.new; faults_before = S.faults src.old; faults_after = S.faults src.new })
         (record { held_before = K.held out.old; held_after = K.held out.new; faults_before = K.faults out.old; faults_after = K.faults out.new }) }
     ensures unwritten { result ≡ Status.NoMemory → out.new ≡ out.old }
     ensures read_count { S.faults src.old ≤ S.faults src.new }
@@ -103,7 +103,7 @@ fn replay<S: Source, K: Sink>(alloc: Global, options: Options, src: &mut S, out:
 
 // Replays the script that these bytes are.
 fn replay_input<K: Sink>(alloc: Global, options: Options, bytes: &[u8], out: &mut K) -> Status
-    requires { length bytes.now ≤ 1048576 }
+    requires { length bytes.now ≤ MAX_BYTES }
     ensures outcome { AnswersInput options result bytes.now (record { held_before = K.held out.old; held_after = K.held out.new; faults_before = K.faults out.old; faults_after = K.faults out.new }) }
     ensures read { (result ≢ Status.Usage) × (result ≢ Status.ReadFault) × (result ≢ Status.TooLong) }
     ensures unwritten { result ≡ Status.NoMemory → out.new ≡ out.old }
@@ -111,15 +111,15 @@ fn replay_input<K: Sink>(alloc: Global, options: Options, bytes: &[u8], out: &mu
 {
     match read_script(alloc, bytes) {
         Ok(script) if Core::can(&script) => replay_script(alloc, options, &script, out),
-        Ok(_) => refuse(alloc, 0, Why::WrongKind, out),
-        Err(ScriptFault::At { line, why }) => refuse(alloc, line, why, out),
+        Ok(_) => answer_bad_script(alloc, 0, Why::WrongKind, out),
+        Err(ScriptFault::At { line, why }) => answer_bad_script(alloc, line, why, out),
         Err(ScriptFault::Memory(_)) => Status::NoMemory,
     }
 }
 
 // Answers that the input is no script that is played, and writes the line that says why.
-fn refuse<K: Sink>(alloc: Global, line: u32, why: Why, out: &mut K) -> Status
-    ensures outcome { Refuses result (record { line = line; why = why }) (record { held_before = K.held out.old; held_after = K.held out.new; faults_before = K.faults out.old; faults_after = K.faults out.new }) }
+fn answer_bad_script<K: Sink>(alloc: Global, line: u32, why: Why, out: &mut K) -> Status
+    ensures outcome { AnswersBadScript result (record { line = line; why = why }) (record { held_before = K.held out.old; held_after = K.held out.new; faults_before = K.faults out.old; faults_after = K.faults out.new }) }
     ensures unwritten { result ≡ Status.NoMemory → out.new ≡ out.old }
     ensures write_count { K.faults out.old ≤ K.faults out.new }
 {
@@ -130,11 +130,11 @@ fn refuse<K: Sink>(alloc: Global, line: u32, why: Why, out: &mut K) -> Status
     Status::BadScript
 }
 
-// How many events are made behind the picks at most.
+// How many events are made after the picks at most.
 fn turns(options: Options, script: &Script) -> u64
     requires { IsScript script.now }
     ensures value { result ≡ turns_of options script.now }
-    ensures few { result ≤ most_turns }
+    ensures few { result ≤ MAX_TURNS }
 {
     match options.turns {
         Some(turns) => turns as u64,

@@ -1,24 +1,26 @@
 ghost use Rattle.std.specs.Prelude.{◌≡◌, ◌↔◌, ◌<◌, map, length, is_some, string_bytes, slice_index, IsTrue};
 ghost use Rattle.rt_script.specs.Words.{number_upto};
-ghost use Rattle.rt_top.specs.Words.{asked, most_turns, options_behind, with_option, no_options};
+ghost use Rattle.rt_top.specs.Words.{options_of, options_after, with_option, no_options};
 
-// Whether a plus stands in front.
+use crate::options::MAX_TURNS;
+
+// Whether the word begins with a plus.
 fn has_plus(word: &[u8]) -> bool
     ensures { IsTrue result ↔ (slice_index word.now 0 ≡ 43) }
 {
     !word.is_empty() && word[0] == b'+'
 }
 
-// Whether a zero stands before other digits.
+// Whether the word begins with a zero and has more digits.
 fn leads_with_zero(word: &[u8]) -> bool
     ensures { IsTrue result ↔ (slice_index word.now 0 ≡ 48) × (1 < length word.now) }
 {
     word.len() > 1 && word[0] == b'0'
 }
 
-/// The number of at most 4,294,967,295 that the word spells, with no sign and no zero in front.
+/// The number of at most 4,294,967,295 that the word spells, with no sign and no leading zero.
 fn number(word: &str) -> Option<u32>
-    ensures { result ≡ number_upto most_turns word.now }
+    ensures { result ≡ number_upto MAX_TURNS word.now }
 {
     let bytes = word.as_bytes();
     if has_plus(bytes) {
@@ -30,7 +32,7 @@ fn number(word: &str) -> Option<u32>
     word.parse::<u32>().ok()
 }
 
-// Whether the words are an option and what stands behind it.
+// Whether the words are an option and its number.
 fn is_option(name: &str, word: &str) -> bool
     ensures { result ≡ is_some (with_option no_options name.now word.now) }
 {
@@ -39,7 +41,7 @@ fn is_option(name: &str, word: &str) -> bool
 
 // Whether the words are options.
 fn are_options(words: &[String]) -> bool
-    ensures { result ≡ is_some (options_behind no_options (map (λ word. string_bytes word) words.now)) }
+    ensures { result ≡ is_some (options_after no_options (map (λ word. string_bytes word) words.now)) }
 {
     match words {
         [] => true,
@@ -50,7 +52,7 @@ fn are_options(words: &[String]) -> bool
 
 /// Whether the words are taken.
 pub fn is_accepted(words: &[String]) -> bool
-    ensures { result ≡ is_some (asked (map (λ word. string_bytes word) words.now)) }
+    ensures { result ≡ is_some (options_of (map (λ word. string_bytes word) words.now)) }
 {
     match words {
         [command, options @ ..] => command.as_str() == "replay" && are_options(options),

@@ -251,7 +251,7 @@ fn order_of_refusals(rt: HostRuntime) -> Result<(), Fail> {
         ("replay", &whole, 9, 0, 7, ""),
         ("replay", &row, 0, 9, 6, "read fault\n"),
         ("replay", &row, 9, 0, 7, ""),
-        // a fault within the limit, and one that would come behind it
+        // a fault within the limit, and one that would come after it
         ("replay", &long, 16, 9, 6, "read fault\n"),
         ("replay", &long, 17, 9, 9, "too long\n"),
     ];

@@ -3,7 +3,7 @@ use Rattle.rt_base.specs.Outside.{Takes}
 use Rattle.rt_base.specs.declared.reading.TheConstants.{PIECE}
 use Rattle.rt_base.proofs.reading.read_whole.Given as goal
 
--- what stands in the buffer is what was taken
+-- what stands in the buffer is what was taken, without a fault
 abbrev pub invariant-loop-buf : goal.invariant-loop-buf
 invariant-loop-buf g l =
     record {
@@ -11,7 +11,7 @@ invariant-loop-buf g l =
       within : vec_len l.buf ≤ l.limit + 1;
       end : l.end ≡ l.limit + 1;
       piece : vec_len l.piece ≡ PIECE;
-      count : g.S.Source.faults l.fn.src ≤ g.S.Source.faults l.src;
+      no_fault : g.S.Source.faults l.src ≡ g.S.Source.faults l.fn.src;
     }
 
 abbrev pub decreases-loop-buf : goal.decreases-loop-buf

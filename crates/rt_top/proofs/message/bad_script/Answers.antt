@@ -11,5 +11,5 @@ pub returns : goal.returns
 returns c =
     let head : List ℕ = codes "bad script: line " in
     let middle : List ℕ = codes ", fault " in
-    let number = ap (λ (n : ℕ). head ++ (decimal c.args.line ++ (middle ++ (decimal n ++ 10 ∷ [])))) c.number_of-number.ensures in
+    let number = ap (λ (n : ℕ). head ++ (decimal c.args.line ++ (middle ++ (decimal n ++ 10 ∷ [])))) c.fault_number-number.ensures in
     IfOk-weaker c.format.result _ _ (λ text e. e ∙ (number ∙ grouped head (decimal c.args.line) middle (decimal _) (10 ∷ []))) c.format.ensures.ok

@@ -1,4 +1,4 @@
-use Rattle.rt_top.proofs.Told.{told}
+use Rattle.rt_top.proofs.MessageWritten.{told}
 use Rattle.rt_top.proofs.message.tell.Goals as goal
 
 pub returns-clause-told : goal.returns-clause-told

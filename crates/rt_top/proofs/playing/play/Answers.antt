@@ -1,6 +1,6 @@
 use Rattle.std.proofs.Common.{◌+◌, ◌∙◌, ap, sym, arith}
 use Rattle.rt_model.specs.NextEvent.{next_event}
-use Rattle.rt_model.proofs.NextEvents.{task-next_event}
+use Rattle.rt_model.proofs.Local.{task-next_event}
 use Rattle.rt_top.proofs.playing.play.Goals as goal
 
 pub make_event-requires-clause-next : goal.make_event-requires-clause-next

@@ -1,13 +1,14 @@
 use Rattle.std.proofs.Common.{◌+◌, ◌-◌, ◌≤◌, ◌∙◌, sym, arith, vec_capacity, ap}
+use Rattle.rt_base.proofs.Outside.{on_err}
 use Rattle.rt_model.specs.Order.{chosen}
 use Rattle.rt_core.specs.Made.{Made}
-use Rattle.rt_top.proofs.Loops.{chosen-none, chosen-left, stopped, moved, over, printed_all, chosen_within, on_err}
+use Rattle.rt_top.proofs.Loops.{chosen-none, chosen-left, stopped, moved, over, printed_all, chosen_within}
 use Rattle.rt_top.proofs.playing.play_chosen.Goals as goal
 
 pub returns-in_default-clause-prints : goal.returns-in_default-clause-prints
 returns-in_default-clause-prints g c =
     let nobody = chosen-none (c.args.turns - c.loop-turn._turn) c.loop-turn.core.state c.loop-turn.now.last (sym c.pick_next.ensures ∙ c.in_default.is) in
-    printed_all c.loop-turn.now (g.K.Sink.faults c.args.out.now) (g.K.Sink.faults c.loop-turn.out) (over nobody c.loop-turn.invariant.0) c.loop-turn.invariant.0.faults
+    printed_all c.loop-turn.now (g.K.Sink.faults c.args.out.now) (g.K.Sink.faults c.loop-turn.out) (over nobody c.loop-turn.invariant.0) c.loop-turn.invariant.0.no_fault
 
 pub returns-in_default-clause-state : goal.returns-in_default-clause-state
 returns-in_default-clause-state g c =
@@ -42,6 +43,6 @@ loop-turn-preserved g c =
     let rest = chosen-left c.args.turns c.loop-turn._turn c.loop-turn.core.state c.loop-turn.now.last c.in-Some.t c.loop-turn-test.true (sym c.in-Some.ensures) in
     let e = c.in_ok-now.ensures in
     let next = moved (chosen (c.args.turns - (c.loop-turn._turn + 1))) c.in-Some.t c.play.new.core.state c.play.new.core.made c.in_ok-now.now (g.K.Sink.held c.play.new.out) c.play.new.buf.items (g.K.Sink.faults c.play.new.out) (vec_capacity c.play.new.buf)
-    rest c.loop-turn.invariant.0 e.moves e.made c.play.ensures.count c.play.ensures.capacity c.play.ensures.script e.within in
+    rest c.loop-turn.invariant.0 e.moves e.made e.no_fault c.play.ensures.capacity c.play.ensures.script e.within in
     let few : c.in_ok-now.now.count ≤ c.loop-turn._turn + 1 = omega (arith, e.few, c.loop-turn.invariant.1) in
     (next, few)

@@ -1,8 +1,9 @@
 use Rattle.std.proofs.Common.{◌+◌, ◌≤◌, suc, drop, get_or, add-one, arith, vec_capacity, ap}
 use Rattle.rt_base.specs.declared.id.TaskId.{TaskId}
+use Rattle.rt_base.proofs.Outside.{on_err}
 use Rattle.rt_model.specs.Order.{picked}
 use Rattle.rt_core.specs.Made.{Made}
-use Rattle.rt_top.proofs.Loops.{picked-drop, stopped, moved, on_err}
+use Rattle.rt_top.proofs.Loops.{picked-drop, stopped, moved}
 use Rattle.rt_top.proofs.playing.play_picks.Goals as goal
 
 pub returns-in_err-now-clause-prints : goal.returns-in_err-now-clause-prints
@@ -30,6 +31,6 @@ loop-t-preserved g c =
     let rest = picked-drop items c.loop-t.t-index (record { 0 = 0 }) c.loop-t.core.state c.loop-t.now.last c.loop-t-test.true in
     let e = c.in_ok-now.ensures in
     let next = moved (picked (drop (suc c.loop-t.t-index) items)) t c.play.new.core.state c.play.new.core.made c.in_ok-now.now (g.K.Sink.held c.play.new.out) c.play.new.buf.items (g.K.Sink.faults c.play.new.out) (vec_capacity c.play.new.buf)
-    rest c.loop-t.invariant.0 e.moves e.made c.play.ensures.count c.play.ensures.capacity c.play.ensures.script e.within in
+    rest c.loop-t.invariant.0 e.moves e.made e.no_fault c.play.ensures.capacity c.play.ensures.script e.within in
     let few : c.in_ok-now.now.count ≤ c.loop-t.t-index + 1 = omega (arith, e.few, c.loop-t.invariant.1) in
     (rw (add-one c.loop-t.t-index) next, few)

@@ -4,8 +4,8 @@ use Rattle.rt_base.proofs.Outside.{Writes-then, Writes-stopped}
 use Rattle.rt_model.specs.Order.{chosen, replayed}
 use Rattle.rt_core.specs.Made.{Made}
 use Rattle.rt_events.specs.Journal.{header, lines_of}
-use Rattle.rt_top.specs.Turns.{behind_picks}
-use Rattle.rt_top.proofs.Journal.{front_of, back_is, journal_parts, front_lines, back_lines}
+use Rattle.rt_top.specs.Turns.{after_picks}
+use Rattle.rt_top.proofs.Journal.{played_picks, after_picks_is, journal_parts, picks_lines, after_picks_lines}
 use Rattle.rt_top.proofs.replaying.print_journal.Goals as goal
 
 pub returns-in_err-print_header-clause-writes : goal.returns-in_err-print_header-clause-writes
@@ -15,9 +15,9 @@ returns-in_err-print_header-clause-writes g c =
 pub returns-in_err-count-clause-writes : goal.returns-in_err-count-clause-writes
 returns-in_err-count-clause-writes g c =
     let script = c.args.script.now in
-    let back = behind_picks script c.args.turns in
-    let cut = Writes-stopped (lines_of script (1 + length (front_of script).events) back.events) (Writes-then c.in_ok-print_header.ensures.writes c.in_err-count.ensures.writes) c.from_residual-in_err-count.ensures.0 in
-    let same = ap (λ text. (header ++ text) ++ lines_of script (1 + length (front_of script).events) back.events) (front_lines script c.args.core.now c.requires.start) ∙ journal_parts script c.args.turns in
+    let back = after_picks script c.args.turns in
+    let cut = Writes-stopped (lines_of script (1 + length (played_picks script).events) back.events) (Writes-then c.in_ok-print_header.ensures.writes c.in_err-count.ensures.writes) c.from_residual-in_err-count.ensures.0 in
+    let same = ap (λ text. (header ++ text) ++ lines_of script (1 + length (played_picks script).events) back.events) (picks_lines script c.args.core.now c.requires.start) ∙ journal_parts script c.args.turns in
     subst (λ (text : List ℕ). Writes c.from_residual-in_err-count.result (g.K.Sink.held c.args.out.now) (g.K.Sink.held c.run_picks.new.out) (g.K.Sink.faults c.args.out.now) (g.K.Sink.faults c.run_picks.new.out) text) same cut
 
 pub finish-requires-clause-made : goal.finish-requires-clause-made
@@ -34,12 +34,12 @@ returns-clause-writes g c =
     let script = c.args.script.now in
     let all = Writes-then (Writes-then c.in_ok-print_header.ensures.writes c.in_ok-count.ensures.writes) c.finish.ensures.writes in
     let e = c.in_ok-count.ensures in
-    let back = back_lines script c.args.core.now c.in_ok-count.count c.args.turns (chosen c.args.turns c.run_picks.new.core.state c.in_ok-count.last) c.requires.start e.count (back_is script c.args.core.now c.args.turns c.run_picks.new.core.state c.in_ok-count.last c.requires.start e.state e.last) in
-    let same = (λ i. (header ++ front_lines script c.args.core.now c.requires.start i) ++ back i) ∙ journal_parts script c.args.turns in
+    let back = after_picks_lines script c.args.core.now c.in_ok-count.count c.args.turns (chosen c.args.turns c.run_picks.new.core.state c.in_ok-count.last) c.requires.start e.count (after_picks_is script c.args.core.now c.args.turns c.run_picks.new.core.state c.in_ok-count.last c.requires.start e.state e.last) in
+    let same = (λ i. (header ++ picks_lines script c.args.core.now c.requires.start i) ++ back i) ∙ journal_parts script c.args.turns in
     subst (λ (text : List ℕ). Writes c.finish.result (g.K.Sink.held c.args.out.now) (g.K.Sink.held c.finish.new.out) (g.K.Sink.faults c.args.out.now) (g.K.Sink.faults c.finish.new.out) text) same all
 
 pub returns-clause-limit : goal.returns-clause-limit
 returns-clause-limit g c =
     let e = c.in_ok-count.ensures in
-    let back = back_is c.args.script.now c.args.core.now c.args.turns c.run_picks.new.core.state c.in_ok-count.last c.requires.start e.state e.last in
+    let back = after_picks_is c.args.script.now c.args.core.now c.args.turns c.run_picks.new.core.state c.in_ok-count.last c.requires.start e.state e.last in
     rw (← back) c.finish.ensures.limit

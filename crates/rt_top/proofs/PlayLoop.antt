@@ -1,11 +1,11 @@
 -- A run that is being made and told: what is done, and what is still to come.
 use Rattle.std.proofs.Common.{◌≡◌, ℕ, ◌+◌, List, [], ◌∷◌, ◌++◌, length, Option, Some, None, refl, sym, ap, ◌∙◌, subst, append_assoc, append-nil, length-append, add-zero, arith}
 use Rattle.rt_base.specs.Script.{Script}
-use Rattle.rt_base.specs.Outside.{AppendsFront}
+use Rattle.rt_base.specs.Outside.{AppendsPrefix}
 use Rattle.rt_base.specs.declared.id.TaskId.{TaskId}
 use Rattle.rt_model.specs.declared.event.Event.{Event}
 use Rattle.rt_model.specs.State.{State}
-use Rattle.rt_model.specs.After.{state_after}
+use Rattle.rt_model.specs.StateAfter.{state_after}
 use Rattle.rt_model.specs.Run.{after}
 use Rattle.rt_model.specs.Order.{Played, stop, then_play}
 use Rattle.rt_model.proofs.Runs.{after-append}
@@ -25,7 +25,7 @@ lines_of-append script number (x ∷ xs) ys =
     ap (λ text. line_of script (entry number x) ++ text) (lines_of-append script (number + 1) xs ys ∙ ap (λ n. lines_of script (number + 1) xs ++ lines_of script n ys) next)
     ∙ sym (append_assoc (line_of script (entry number x)) (lines_of script (number + 1) xs) (lines_of script (number + length (x ∷ xs)) ys))
 
--- with an event in front
+-- with an event first
 abbrev pub with_event : Event → Played → Played
 with_event e more = record more { events = e ∷ more.events }
 
@@ -69,19 +69,19 @@ steps script first s0 whole rest more s s' count e h0 b0 h b h' b' is leaves tol
 
 -- some first part of these events is done, and so many they are
 abbrev pub IsPartDone : State → State → List Event → ℕ → Type 0
-IsPartDone s0 s events count = (front : List Event) × (rest : List Event) × (front ++ rest ≡ events) × (s ≡ after s0 front) × (count ≡ length front)
+IsPartDone s0 s events count = (first : List Event) × (rest : List Event) × (first ++ rest ≡ events) × (s ≡ after s0 first) × (count ≡ length first)
 
--- a fault at the next event: the sink holds a front of all the lines, and a first part of the events is made
+-- a fault at the next event: the sink holds a prefix of all the lines, and a first part of the events is made
 pub fails : (script : Script) (first : ℕ) (s0 : State) (whole rest more : Played) (s : State) (count : ℕ) (e : Event) (h0 : Option (List ℕ)) (b0 : List ℕ) (h : Option (List ℕ)) (b : List ℕ) (h' : Option (List ℕ))
-    → rest ≡ with_event e more → AppendsFront h (b ++ line_of script (entry (first + count) e)) h'
-    → Going script first s0 whole rest s count h0 b0 h b → AppendsFront h0 (b0 ++ lines_of script first whole.events) h' × IsPartDone s0 s whole.events count
+    → rest ≡ with_event e more → AppendsPrefix h (b ++ line_of script (entry (first + count) e)) h'
+    → Going script first s0 whole rest s count h0 b0 h b → AppendsPrefix h0 (b0 ++ lines_of script first whole.events) h' × IsPartDone s0 s whole.events count
 fails script first s0 whole rest more s count e h0 b0 h b h' is cut going =
     let all : whole.events ≡ going.done ++ (e ∷ more.events) = going.events ∙ ap (λ (r : Played). going.done ++ r.events) is in
     let number : first + count ≡ first + length going.done = ap (λ n. first + n) going.counted in
     let text : lines_of script first going.done ++ (line_of script (entry (first + count) e) ++ lines_of script (first + length going.done + 1) more.events) ≡ lines_of script first whole.events =
     ap (λ n. lines_of script first going.done ++ (line_of script (entry n e) ++ lines_of script (first + length going.done + 1) more.events)) number
     ∙ (sym (lines_of-append script first going.done (e ∷ more.events)) ∙ ap (lines_of script first) (sym all)) in (
-      subst (λ (bytes : List ℕ). AppendsFront h0 (b0 ++ bytes) h') text
+      subst (λ (bytes : List ℕ). AppendsPrefix h0 (b0 ++ bytes) h') text
           (HandsOn-stopped h0 h h' b0 b (lines_of script first going.done) (line_of script (entry (first + count) e)) (lines_of script (first + length going.done + 1) more.events) going.printed cut),
       (going.done, e ∷ more.events, sym all, going.now, going.counted),
     )
@@ -127,7 +127,7 @@ moves_on script first s0 whole rest s s' t (Some e) so_far now h0 b0 h b h' b' m
 
 -- a fault at a task's move
 pub stops_at : (script : Script) (first : ℕ) (s0 : State) (whole : Played) (rest : State → Option TaskId → Played) (s s' : State) (t : TaskId) (next : Option Event) (so_far : Progress) (h0 : Option (List ℕ)) (b0 : List ℕ) (h : Option (List ℕ)) (b : List ℕ) (h' : Option (List ℕ))
-    → Stops script first next s s' so_far h b h' → Going script first s0 whole (then_play rest s so_far.last t next) s so_far.count h0 b0 h b → AppendsFront h0 (b0 ++ lines_of script first whole.events) h' × IsPartDone s0 s' whole.events so_far.count
+    → Stops script first next s s' so_far h b h' → Going script first s0 whole (then_play rest s so_far.last t next) s so_far.count h0 b0 h b → AppendsPrefix h0 (b0 ++ lines_of script first whole.events) h' × IsPartDone s0 s' whole.events so_far.count
 stops_at script first s0 whole rest s s' t None so_far h0 b0 h b h' stops going = absurd stops
 stops_at script first s0 whole rest s s' t (Some e) so_far h0 b0 h b h' stops going =
     let cut = fails script first s0 whole (with_event e (rest (state_after s e) (Some t))) (rest (state_after s e) (Some t)) s so_far.count e h0 b0 h b h' refl stops.1 going in

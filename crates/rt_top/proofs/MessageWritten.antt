@@ -7,18 +7,18 @@ use Rattle.rt_script.specs.Grammar.{FaultAt, script_of}
 use Rattle.rt_top.specs.declared.options.Options.{Options}
 use Rattle.rt_top.specs.declared.status.Status.{Status}
 use Rattle.rt_top.specs.declared.status.Status.TheVariants as statuses
-use Rattle.rt_top.specs.Message.{bad_script_line, refusal_of, usage_line}
-use Rattle.rt_top.specs.Answer.{Answers, AnswersInput, Input, IsNotPlayed, IsTold, Output, Refuses}
+use Rattle.rt_top.specs.Message.{bad_script_line, bad_script_fault, usage_line}
+use Rattle.rt_top.specs.Answer.{Answers, AnswersInput, Input, IsNotPlayed, IsTold, Output, AnswersBadScript}
 
--- a line that was written, or some front of it
+-- a line that was written, or some prefix of it
 pub told : {T : Type 0} (result : Result T Failed) (line : List ℕ) (held_before held_after : Option (List ℕ)) (faults_before faults_after : ℕ)
     → Writes result held_before held_after faults_before faults_after line
     → IsTold line (record { held_before = held_before; held_after = held_after; faults_before = faults_before; faults_after = faults_after })
-told (Ok x) line held_before held_after faults_before faults_after writes = inl writes.whole
+told (Ok x) line held_before held_after faults_before faults_after writes = inl (writes.whole, writes.no_fault)
 told (Err e) line held_before held_after faults_before faults_after writes = inr (writes.cause, writes.part)
 
 -- an input that is refused for its fault
-pub refused : (options : Options) (status : Status) (input : List ℕ) (output : Output) (fault : FaultAt) → IsNotPlayed (script_of input) → fault ≡ refusal_of (script_of input) → Refuses status fault output → AnswersInput options status input output
+pub refused : (options : Options) (status : Status) (input : List ℕ) (output : Output) (fault : FaultAt) → IsNotPlayed (script_of input) → fault ≡ bad_script_fault (script_of input) → AnswersBadScript status fault output → AnswersInput options status input output
 refused options statuses.BadScript input output fault not_played is told = (not_played, subst (λ (f : FaultAt). IsTold (bad_script_line f) output) is told)
 refused options statuses.NoMemory input output fault not_played is told = tt
 refused options statuses.Done input output fault not_played is told = absurd told
@@ -30,6 +30,6 @@ refused options statuses.WriteFault input output fault not_played is told = absu
 refused options statuses.TooLong input output fault not_played is told = absurd told
 
 -- words that aren't taken
-pub unasked : (o : Option Options) (input : Input) (output : Output) → is_some o ≡ false → IsTold usage_line output → Answers o statuses.Usage [] input output
-unasked None input output none told = (refl, told)
-unasked (Some options) input output none told = cc none
+pub unaccepted : (o : Option Options) (input : Input) (output : Output) → is_some o ≡ false → IsTold usage_line output → Answers o statuses.Usage [] input output
+unaccepted None input output none told = (refl, told)
+unaccepted (Some options) input output none told = cc none

@@ -7,7 +7,8 @@ use Rattle.clap.specs.Words.{ReadsOne}
 use Rattle.std.proofs.lemmas.Slice.Eq.{bytes_eq-Decides}
 use Rattle.rt_script.specs.Words.{◌>>=◌, only_if, number_upto}
 use Rattle.rt_top.specs.declared.options.Options.{Options}
-use Rattle.rt_top.specs.Words.{IsTurns, asked, no_options, options_behind, with_option}
+use Rattle.rt_top.specs.declared.options.TheConstants.{MAX_TURNS}
+use Rattle.rt_top.specs.Words.{IsTurns, options_of, no_options, options_after, with_option}
 use Rattle.rt_top.proofs.Spelled.{spells, some_of, first_of, no_zero, number_upto-parsed}
 
 if_passed : {A : Type 0} (b : Bool) (o : Option A) (a : A) → only_if b o ≡ Some a → (b ≡ true) × (o ≡ Some a)
@@ -23,7 +24,7 @@ both false b e = cc e
 not_again : (n : ℕ) (name word : List ℕ) → with_option (record { turns = Some n }) name word ≡ None
 not_again n name word = twice (bytes_eq name (codes "--turns"))
   where
-    twice : (b : Bool) → only_if {A = Options} (b && not true) (number_upto 4294967295 word >>= λ m. Some (record { turns = Some m })) ≡ None
+    twice : (b : Bool) → only_if {A = Options} (b && not true) (number_upto MAX_TURNS word >>= λ m. Some (record { turns = Some m })) ≡ None
     twice true = refl
     twice false = refl
 
@@ -35,36 +36,36 @@ number_given (Some n) given e = (n, refl, cc e)
 pub record HasTurns (name word : List ℕ) (options : Options) : Type 0 where
   pub number : ℕ
   pub named : name ≡ codes "--turns"
-  pub spelled : number_upto 4294967295 word ≡ Some number
+  pub spelled : number_upto MAX_TURNS word ≡ Some number
   pub given : options ≡ record { turns = Some number }
 
 has_turns : (name word : List ℕ) (options : Options) → with_option no_options name word ≡ Some options → HasTurns name word options
 has_turns name word options e =
-    let p = if_passed (bytes_eq name (codes "--turns") && true) (number_upto 4294967295 word >>= λ m. Some (record { turns = Some m })) options e in
-    let n = number_given (number_upto 4294967295 word) options p.1 in
+    let p = if_passed (bytes_eq name (codes "--turns") && true) (number_upto MAX_TURNS word >>= λ m. Some (record { turns = Some m })) options e in
+    let n = number_given (number_upto MAX_TURNS word) options p.1 in
     record { number = n.0; named = (bytes_eq-Decides name (codes "--turns")).0 (both _ _ p.0).0; spelled = n.1; given = n.2 }
 
 -- nothing but one option is an option
-no_more : (n : ℕ) (words : List (List ℕ)) (options : Options) → options_behind (record { turns = Some n }) words ≡ Some options → (words ≡ []) × (options ≡ record { turns = Some n })
+no_more : (n : ℕ) (words : List (List ℕ)) (options : Options) → options_after (record { turns = Some n }) words ≡ Some options → (words ≡ []) × (options ≡ record { turns = Some n })
 no_more n [] options e = (refl, cc e)
 no_more n (name ∷ []) options e = cc e
-no_more n (name ∷ word ∷ words) options e = cc (e, ap (λ (o : Option Options). o >>= λ more. options_behind more words) (not_again n name word))
+no_more n (name ∷ word ∷ words) options e = cc (e, ap (λ (o : Option Options). o >>= λ more. options_after more words) (not_again n name word))
 
-none_behind : (n : ℕ) (word : List ℕ) (words : List (List ℕ)) → is_some (options_behind (record { turns = Some n }) (word ∷ words)) ≡ false
-none_behind n word [] = refl
-none_behind n word (name ∷ words) = rw (not_again n word name) refl
+none_after : (n : ℕ) (word : List ℕ) (words : List (List ℕ)) → is_some (options_after (record { turns = Some n }) (word ∷ words)) ≡ false
+none_after n word [] = refl
+none_after n word (name ∷ words) = rw (not_again n word name) refl
 
-pub options_long : (words : List (List ℕ)) → 3 ≤ length words → is_some (options_behind no_options words) ≡ false
+pub options_long : (words : List (List ℕ)) → 3 ≤ length words → is_some (options_after no_options words) ≡ false
 options_long [] long = absurd (omega arith)
 options_long (a ∷ []) long = absurd (omega arith)
 options_long (a ∷ b ∷ []) long = absurd (omega arith)
-options_long (a ∷ b ∷ c ∷ words) long = behind (with_option no_options a b) refl
+options_long (a ∷ b ∷ c ∷ words) long = after (with_option no_options a b) refl
   where
-    behind : (o : Option Options) → with_option no_options a b ≡ o → is_some (o >>= λ more. options_behind more (c ∷ words)) ≡ false
-    behind None e = refl
-    behind (Some more) e = let t = has_turns a b more e in rw t.given (none_behind t.number c words)
+    after : (o : Option Options) → with_option no_options a b ≡ o → is_some (o >>= λ more. options_after more (c ∷ words)) ≡ false
+    after None e = refl
+    after (Some more) e = let t = has_turns a b more e in rw t.given (none_after t.number c words)
 
-pub options_pair : (name word : List ℕ) → is_some (options_behind no_options (name ∷ word ∷ [])) ≡ is_some (with_option no_options name word)
+pub options_pair : (name word : List ℕ) → is_some (options_after no_options (name ∷ word ∷ [])) ≡ is_some (with_option no_options name word)
 options_pair name word = given (with_option no_options name word)
   where
     given : (o : Option Options) → is_some (o >>= λ more. Some more) ≡ is_some o
@@ -83,35 +84,35 @@ two_words (v ∷ w ∷ z ∷ xs) x y some few a b = absurd (omega arith)
 -- `replay` alone, or with its option
 pub data Form (words : List (List ℕ)) (options : Options) : Type 0 where
   plain : words ≡ codes "replay" ∷ [] → options ≡ no_options → Form words options
-  with_turns : (word : List ℕ) (n : ℕ) → words ≡ codes "replay" ∷ codes "--turns" ∷ word ∷ [] → number_upto 4294967295 word ≡ Some n → options ≡ record { turns = Some n } → Form words options
+  with_turns : (word : List ℕ) (n : ℕ) → words ≡ codes "replay" ∷ codes "--turns" ∷ word ∷ [] → number_upto MAX_TURNS word ≡ Some n → options ≡ record { turns = Some n } → Form words options
 
-pub forms : (words : List (List ℕ)) (options : Options) → asked words ≡ Some options → Form words options
+pub forms : (words : List (List ℕ)) (options : Options) → options_of words ≡ Some options → Form words options
 forms [] options e = cc e
 forms (command ∷ words) options e =
-    let p = if_passed (bytes_eq command (codes "replay")) (options_behind no_options words) options e in
+    let p = if_passed (bytes_eq command (codes "replay")) (options_after no_options words) options e in
     let named : command ≡ codes "replay" = (bytes_eq-Decides command (codes "replay")).0 p.0 in
-    behind words p.1 named
+    after words p.1 named
   where
-    behind : (rest : List (List ℕ)) → options_behind no_options rest ≡ Some options → command ≡ codes "replay" → Form (command ∷ rest) options
-    behind [] is named = plain (ap (λ word. word ∷ []) named) (cc is)
-    behind (name ∷ []) is named = cc is
-    behind (name ∷ word ∷ more) is named = given (with_option no_options name word) refl is
+    after : (rest : List (List ℕ)) → options_after no_options rest ≡ Some options → command ≡ codes "replay" → Form (command ∷ rest) options
+    after [] is named = plain (ap (λ word. word ∷ []) named) (cc is)
+    after (name ∷ []) is named = cc is
+    after (name ∷ word ∷ more) is named = given (with_option no_options name word) refl is
       where
-        given : (o : Option Options) → with_option no_options name word ≡ o → (o >>= λ given. options_behind given more) ≡ Some options → Form (command ∷ name ∷ word ∷ more) options
+        given : (o : Option Options) → with_option no_options name word ≡ o → (o >>= λ given. options_after given more) ≡ Some options → Form (command ∷ name ∷ word ∷ more) options
         given None one all = cc all
         given (Some so_far) one all =
             let t = has_turns name word so_far one in
-            let r = no_more t.number more options (subst (λ (o : Options). options_behind o more ≡ Some options) t.given all) in
+            let r = no_more t.number more options (subst (λ (o : Options). options_after o more ≡ Some options) t.given all) in
             with_turns word t.number (λ i. named i ∷ t.named i ∷ word ∷ r.0 i) t.spelled r.1
 
 -- ---- the number that is read
 
-number_read : {E : Type 0} (word : List ℕ) (n : ℕ) (r : Result ℕ E) → number_upto 4294967295 word ≡ Some n → ParsesUnsigned 32 10 word r → result_ok r ≡ Some n
+number_read : {E : Type 0} (word : List ℕ) (n : ℕ) (r : Result ℕ E) → number_upto MAX_TURNS word ≡ Some n → ParsesUnsigned 32 10 word r → result_ok r ≡ Some n
 number_read word n r is parses =
-    let s = spells 4294967295 word n is in
-    let some = some_of 4294967295 word n (omega arith) s in
+    let s = spells MAX_TURNS word n is in
+    let some = some_of MAX_TURNS word n (omega arith) s in
     let led : get_or word 0 0 ≡ 48 → length word ≡ 1 = λ z. one_digit z some (no_zero n word (omega (arith, s.within)) s.text z) in
-    number_upto-parsed word r (first_of 4294967295 word n 43 (omega arith) s (omega arith)) led parses ∙ is
+    number_upto-parsed word r (first_of MAX_TURNS word n 43 (omega arith) s (omega arith)) led parses ∙ is
   where
     one_digit : get_or word 0 0 ≡ 48 → 0 < length word → (1 < length word → ⊥) → length word ≡ 1
     one_digit z some long = omega (arith, some, long)
@@ -120,7 +121,7 @@ abbrev with_number : Option ℕ → Options
 with_number n = record { turns = n }
 
 module _ {E : Type 0} (G : List ℕ → Result ℕ E → Type 0) (parses : (word : List ℕ) (r : Result ℕ E) → G word r → ParsesUnsigned 32 10 word r) where
-  one_read : (word : List ℕ) (n : ℕ) (r : Option ℕ) → number_upto 4294967295 word ≡ Some n → ReadsOne G word r → r ≡ Some n
+  one_read : (word : List ℕ) (n : ℕ) (r : Option ℕ) → number_upto MAX_TURNS word ≡ Some n → ReadsOne G word r → r ≡ Some n
   one_read word n (Some v) is g = number_read {E = E} word n (Ok v) is (parses word (Ok v) g)
   one_read word n None is g = number_read {E = E} word n (Err g.0) is (parses word (Err g.0) g.1)
 

@@ -1,7 +1,7 @@
 use Rattle.std.proofs.Common.{◌≤◌, Ok, vec_capacity}
 use Rattle.rt_core.specs.Report.{report_upto}
 use Rattle.rt_top.specs.Printing.{Prints}
-use Rattle.rt_top.proofs.reporting.gather_report.Given as goal
+use Rattle.rt_top.proofs.reporting.push_report.Given as goal
 
 abbrev pub invariant-loop-i : goal.invariant-loop-i
 invariant-loop-i g l =

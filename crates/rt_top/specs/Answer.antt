@@ -3,8 +3,9 @@ use Rattle.std.specs.Prelude.{◌≡◌, ◌⊎◌, ◌↔◌, ℕ, ◌+◌, ◌
 use Rattle.rt_base.specs.declared.ended.Ended.{Ended}
 use Rattle.rt_base.specs.declared.ended.Ended.TheVariants as ends
 use Rattle.rt_base.specs.Outside.{Rises, IsAtEnd, Appends, AppendsPrefix}
-use Rattle.rt_base.specs.Script.{Script, HasOneMutex, budget_of}
+use Rattle.rt_base.specs.Script.{Script, budget_of}
 use Rattle.rt_model.specs.State.{start}
+use Rattle.rt_model.specs.Stage.{HasOneMutex}
 use Rattle.rt_model.specs.Run.{IsRun, after, ended_of}
 use Rattle.rt_model.specs.Order.{replayed}
 use Rattle.rt_model.specs.laws.Sound.{IsSound}

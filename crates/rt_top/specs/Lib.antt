@@ -11,14 +11,11 @@ pub use Rattle.rt_model.specs.Parts
 pub use Rattle.rt_model.specs.State
 pub use Rattle.rt_model.specs.Footprint
 pub use Rattle.rt_model.specs.NextEvent
-pub use Rattle.rt_model.specs.After
+pub use Rattle.rt_model.specs.StateAfter
 pub use Rattle.rt_model.specs.Run
 pub use Rattle.rt_model.specs.Order
-pub use Rattle.rt_model.specs.Laws
-pub use Rattle.rt_model.specs.Holders
-pub use Rattle.rt_model.specs.Priority
-pub use Rattle.rt_model.specs.Called
-pub use Rattle.rt_model.specs.Sound
+pub use Rattle.rt_model.specs.Stage
+pub use Rattle.rt_model.specs.laws
 pub use Rattle.rt_script.specs.Grammar
 pub use Rattle.rt_core.specs.Text
 pub use Rattle.rt_events.specs.Entry

@@ -1,6 +1,7 @@
 ghost use Rattle.std.specs.Prelude.{◌≡◌, ◌≢◌, ◌↔◌, ◌≤◌, ℕ, List, map, length, string_bytes, Result, Ok, Err};
 ghost use Rattle.rt_base.specs.Outside.{Takes};
-ghost use Rattle.rt_base.specs.Script.{HasOneMutex, IsScript};
+ghost use Rattle.rt_base.specs.Script.{IsScript};
+ghost use Rattle.rt_model.specs.Stage.{HasOneMutex};
 ghost use Rattle.rt_script.specs.Grammar.{FaultAt};
 ghost use Rattle.rt_top.specs.Words.{IsAccepted, options_of};
 ghost use Rattle.rt_top.specs.Answer.{Answers, AnswersReplay, AnswersInput, Replays, AnswersBadScript, turns_of};

@@ -9,7 +9,7 @@ use Rattle.rt_model.specs.State.{State, start}
 use Rattle.rt_model.specs.Run.{after, ended_of}
 use Rattle.rt_model.specs.Order.{Played, picked, chosen, replayed}
 use Rattle.rt_model.proofs.Runs.{replayed_leads}
-use Rattle.rt_core.specs.Made.{Made}
+use Rattle.rt_core.specs.Core.{Made}
 use Rattle.rt_core.specs.Report.{report_of}
 use Rattle.rt_events.specs.Journal.{header, lines_of, end_line}
 use Rattle.rt_core.specs.Text.{replay_text}

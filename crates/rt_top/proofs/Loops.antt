@@ -11,7 +11,7 @@ use Rattle.rt_model.specs.Order.{Played, stop, picked, chosen, chosen_task, then
 use Rattle.rt_model.proofs.laws.Shape.{IsOf-threads}
 use Rattle.rt_model.proofs.Lowest.{chosen_below}
 use Rattle.rt_model.proofs.Runs.{Leads}
-use Rattle.rt_core.specs.Made.{Made}
+use Rattle.rt_core.specs.Core.{Made}
 use Rattle.rt_events.specs.Journal.{lines_of}
 use Rattle.rt_top.specs.declared.progress.Progress.{Progress}
 use Rattle.rt_top.specs.Printing.{Prints}

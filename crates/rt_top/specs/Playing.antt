@@ -7,7 +7,7 @@ use Rattle.rt_model.specs.declared.event.Event.{Event}
 use Rattle.rt_model.specs.State.{State}
 use Rattle.rt_model.specs.StateAfter.{state_after}
 use Rattle.rt_model.specs.Run.{after}
-use Rattle.rt_core.specs.Made.{Made}
+use Rattle.rt_core.specs.Core.{Made}
 use Rattle.rt_events.specs.Entry.{entry}
 use Rattle.rt_events.specs.Line.{line_of}
 use Rattle.rt_top.specs.declared.progress.Progress.{Progress}

@@ -1,7 +1,7 @@
 use Rattle.std.proofs.Common.{◌+◌, ◌-◌, ◌≤◌, ◌∙◌, sym, arith, vec_capacity, ap}
 use Rattle.rt_base.proofs.Outside.{on_err}
 use Rattle.rt_model.specs.Order.{chosen}
-use Rattle.rt_core.specs.Made.{Made}
+use Rattle.rt_core.specs.Core.{Made}
 use Rattle.rt_top.proofs.Loops.{chosen-none, chosen-left, stopped, moved, over, printed_all, chosen_within}
 use Rattle.rt_top.proofs.playing.play_chosen.Goals as goal
 

@@ -2,7 +2,7 @@ use Rattle.std.proofs.Common.{◌+◌, ◌≤◌, suc, drop, get_or, add-one, ar
 use Rattle.rt_base.specs.declared.id.TaskId.{TaskId}
 use Rattle.rt_base.proofs.Outside.{on_err}
 use Rattle.rt_model.specs.Order.{picked}
-use Rattle.rt_core.specs.Made.{Made}
+use Rattle.rt_core.specs.Core.{Made}
 use Rattle.rt_top.proofs.Loops.{picked-drop, stopped, moved}
 use Rattle.rt_top.proofs.playing.play_picks.Goals as goal
 

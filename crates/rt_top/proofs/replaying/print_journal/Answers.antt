@@ -2,7 +2,7 @@ use Rattle.std.proofs.Common.{◌+◌, ◌++◌, ◌∙◌, ap, length, subst, L
 use Rattle.rt_base.specs.Outside.{Writes}
 use Rattle.rt_base.proofs.Outside.{Writes-then, Writes-stopped}
 use Rattle.rt_model.specs.Order.{chosen, replayed}
-use Rattle.rt_core.specs.Made.{Made}
+use Rattle.rt_core.specs.Core.{Made}
 use Rattle.rt_events.specs.Journal.{header, lines_of}
 use Rattle.rt_top.specs.Turns.{after_picks}
 use Rattle.rt_top.proofs.Journal.{played_picks, after_picks_is, journal_parts, picks_lines, after_picks_lines}

@@ -74,18 +74,18 @@ keeps_keys kinds.Wait = false
 keeps_keys kinds.Give = false
 keeps_keys _ = true
 
-key-own : (kind : EventKind) (e : Event) (th : ThreadPart) (found : Around) (lock : OwnerPart) → keeps_keys kind ≡ true → (task : TaskPart) → HasKey task → HasKey ((effect kind e th found).own lock task)
-key-own kinds.Wait e th found lock is task was = cc
-key-own kinds.Give e th found lock is task was = cc
-key-own kinds.Take e th found lock is task was =
+key-own : (kind : EventKind) (e : Event) (th : ThreadPart) → keeps_keys kind ≡ true → (found : Around) (lock : OwnerPart) (task : TaskPart) → HasKey task → HasKey ((effect kind e th found).own lock task)
+key-own kinds.Wait e th is found lock task was = cc
+key-own kinds.Give e th is found lock task was = cc
+key-own kinds.Take e th is found lock task was =
     let left : TaskPart = leave_queue (spins (kind_named th e.lock)) task in
     unblocked-key (with_top e.lock (top_key lock.rows) left) (with_top-blocked e.lock (top_key lock.rows) left ∙ leave_queue-blocked (spins (kind_named th e.lock)) task)
-key-own _ e th found lock is task was = was
+key-own _ e th is found lock task was = was
 
-key-others : (kind : EventKind) (e : Event) (th : ThreadPart) (found : Around) (lock : OwnerPart) → keeps_keys kind ≡ true → OthersKeep HasKey (effect kind e th found) lock
-key-others kinds.Wait e th found lock is = cc
-key-others kinds.Give e th found lock is = cc
-key-others _ e th found lock is = record { owner = λ task was. was; other = λ task was. was; woken = λ task was. was }
+key-others : (kind : EventKind) (e : Event) (th : ThreadPart) → keeps_keys kind ≡ true → (found : Around) (lock : OwnerPart) → OthersKeep HasKey (effect kind e th found) lock
+key-others kinds.Wait e th is found lock = cc
+key-others kinds.Give e th is found lock = cc
+key-others _ e th is found lock = record { owner = λ task was. was; other = λ task was. was; woken = λ task was. was }
 
 -- ---- the law
 
@@ -93,12 +93,10 @@ module _ (s : State) (made : ℕ) (t : TaskId) (e : Event) (u : TaskId) (lawful 
   key : HasKey (task_part s u)
   key = lawful.keys u (unnamed s made u lawful)
 
-  kept-key : keeps_keys e.kind ≡ true → HasKey (task_part (state_after s e) u)
-  kept-key is =
-      let th = thread_part s e.task in
-      let found = around (shared s) (touched e.kind e) in
-      let lock = lock_left (shared s) th e in
-      task-keeps HasKey s e u key (key-own e.kind e th found lock is) (key-others e.kind e th found lock is)
+  kept-key : (x : Event) → e ≡ x → keeps_keys x.kind ≡ true → HasKey (task_part (state_after s e) u)
+  kept-key x is keeps =
+      let kind : keeps_keys e.kind ≡ true = ap (λ (y : Event). keeps_keys y.kind) is ∙ keeps in
+      task-keeps HasKey s e u key (key-own e.kind e (thread_part s e.task) kind) (key-others e.kind e (thread_part s e.task) kind)
 
   -- the waiter's key is its priority, and the owner, whose priority may change, isn't blocked
   wait-key : (l : LockId) → IsWait s t l e → HasKey (task_part (state_after s e) u)
@@ -126,15 +124,12 @@ module _ (s : State) (made : ℕ) (t : TaskId) (e : Event) (u : TaskId) (lawful 
 pub KeysLaw-next : (s : State) (made : ℕ) (t : TaskId) (e : Event) → IsLawful s made → IsNext s t e → KeysLaw (state_after s e)
 KeysLaw-next s made t e lawful next u named = by_kind next
   where
-    kept : (x : Event) → e ≡ x → keeps_keys x.kind ≡ true → HasKey (task_part (state_after s e) u)
-    kept x is keeps = kept-key s made t e u lawful (ap (λ (y : Event). keeps_keys y.kind) is ∙ keeps)
-
     by_kind : IsNext s t e → HasKey (task_part (state_after s e) u)
-    by_kind (by_own call answer is) = kept _ is.event refl
-    by_kind (by_acquire l (is_fast is)) = kept _ is.event refl
-    by_kind (by_acquire l (is_mark is)) = kept _ is.event refl
-    by_kind (by_acquire l (is_take is)) = kept _ is.event refl
+    by_kind (by_own call answer is) = kept-key s made t e u lawful _ is.event refl
+    by_kind (by_acquire l (is_fast is)) = kept-key s made t e u lawful _ is.event refl
+    by_kind (by_acquire l (is_mark is)) = kept-key s made t e u lawful _ is.event refl
+    by_kind (by_acquire l (is_take is)) = kept-key s made t e u lawful _ is.event refl
     by_kind (by_wait l (is_wait is)) = wait-key s made t e u lawful l is
-    by_kind (by_wait l (is_again is)) = kept _ is.event refl
-    by_kind (by_release l (is_free is)) = kept _ is.event refl
+    by_kind (by_wait l (is_again is)) = kept-key s made t e u lawful _ is.event refl
+    by_kind (by_release l (is_free is)) = kept-key s made t e u lawful _ is.event refl
     by_kind (by_release l (is_give is)) = give-key s made t e u lawful l is

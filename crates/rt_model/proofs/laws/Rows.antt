@@ -18,17 +18,18 @@ use Rattle.rt_model.specs.steps.Task.{leave_queue}
 use Rattle.rt_model.specs.StateAfter.{state_after}
 use Rattle.rt_model.specs.laws.Rows.{IsAhead, IsQueue, RowsLaw, key_at}
 use Rattle.rt_model.specs.laws.Lawful.{IsLawful}
-use Rattle.rt_model.proofs.CellStepLemmas.{leave_queue-blocked, with_top-blocked, lock_woken-like}
-use Rattle.rt_model.proofs.PartsAfter.{OthersKeep, lock-made, lock-kept, task-kept, own-made}
+use Rattle.rt_model.proofs.Blocked.{moves, rows-kept, blocked-kept}
+use Rattle.rt_model.proofs.CellStepLemmas.{leave_queue-blocked}
+use Rattle.rt_model.proofs.PartsAfter.{OthersKeep, lock-made, lock-kept, own-made}
 use Rattle.rt_model.proofs.Within.{task_room}
 use Rattle.rt_model.proofs.Calling.{IsIn}
 use Rattle.rt_model.proofs.NextEvents.{IsNext, by_own, by_acquire, by_wait, by_release}
 use Rattle.rt_model.proofs.events.Acquire.{IsTake, is_fast, is_mark, is_take, TakesIn}
 use Rattle.rt_model.proofs.events.Wait.{IsWait, is_wait, is_again}
 use Rattle.rt_model.proofs.events.Release.{is_free, is_give}
-use Rattle.rt_model.proofs.Queues.{IsApart, All-insert_row, insert_order, none_of, row_of-insert, row_of-insert_other, row_of-without, row_of-without_other, no_rows}
+use Rattle.rt_model.proofs.Queues.{apart, All-insert_row, insert_order, none_of, row_of-insert, row_of-insert_other, row_of-without, row_of-without_other, no_rows}
 use Rattle.rt_model.proofs.Waiters.{wait-elsewhere, slow-nowhere, slow-unqueued}
-use Rattle.rt_model.proofs.Numbers.{other_number, number_itself}
+use Rattle.rt_model.proofs.Numbers.{number_itself}
 
 -- ---- the queue of one lock
 
@@ -52,10 +53,6 @@ taken made t lock is =
       };
       ticket = omega arith;
     }
-
--- a new row is of another task than those queued, and has a new ticket
-apart : (t : TaskId) (key ticket : ℕ) (row : Row) → is_of t row ≡ false → row.ticket < ticket → IsApart (record { key = key; ticket = ticket; who = t.0 }) row
-apart t key ticket row other lt = record { task = λ same. other_number row.who t.0 other (sym same); ticket = λ same. absurd (omega (arith, same)) }
 
 more : (made : ℕ) (t : TaskId) (key : ℕ) (lock : OwnerPart) → queued_key t lock.rows ≡ None → IsQueueAt made lock → IsQueueAt (suc made) (queued t key lock)
 more made t key lock none is =
@@ -102,10 +99,6 @@ queue-next s made t e m lawful next = by_kind next
 -- the task's row at a lock is the one with which it is blocked there
 abbrev HasRow : LockId → TaskId → List Row → Option (LockId × ℕ) → Type 0
 HasRow m u rows blocked = queued_key u rows ≡ key_at blocked m
-
--- rows and a task that are both as they were
-kept_row : (m : LockId) (u : TaskId) (lock other : OwnerPart) (task changed : TaskPart) → other.rows ≡ lock.rows → changed.blocked ≡ task.blocked → HasRow m u lock.rows task.blocked → HasRow m u other.rows changed.blocked
-kept_row m u lock other task changed rows blocked is = ap (queued_key u) rows ∙ (is ∙ sym (ap (λ (b : Option (LockId × ℕ)). key_at b m) blocked))
 
 key_there : (l : LockId) (k : ℕ) → Some k ≡ key_at (Some (l, k)) l
 key_there l k = rw (number_itself l.0) refl
@@ -161,27 +154,18 @@ row-next : (s : State) (made : ℕ) (t : TaskId) (e : Event) (m : LockId) (u : T
     → HasRow m u (owner_part (state_after s e) m).rows (task_part (state_after s e) u).blocked
 row-next s made t e m u lawful next = by_kind next
   where
-    Rows : OwnerPart → Type 0
-    Rows lock = lock.rows ≡ (owner_part s m).rows
-
-    Same : TaskPart → Type 0
-    Same task = task.blocked ≡ (task_part s u).blocked
-
-    by_same : Rows (owner_part (state_after s e) m) → Same (task_part (state_after s e) u) → HasRow m u (owner_part (state_after s e) m).rows (task_part (state_after s e) u).blocked
-    by_same rows blocked = kept_row m u (owner_part s m) (owner_part (state_after s e) m) (task_part s u) (task_part (state_after s e) u) rows blocked (lawful.rows.rows m u)
+    still : (x : Event) → e ≡ x → moves x.kind ≡ false → HasRow m u (owner_part (state_after s e) m).rows (task_part (state_after s e) u).blocked
+    still x is unmoved = ap (queued_key u) (rows-kept s e x m is unmoved) ∙ (lawful.rows.rows m u ∙ sym (ap (λ (b : Option (LockId × ℕ)). key_at b m) (blocked-kept s e x u is unmoved)))
 
     by_kind : IsNext s t e → HasRow m u (owner_part (state_after s e) m).rows (task_part (state_after s e) u).blocked
-    by_kind (by_own call answer is) = by_same (lock-kept Rows s e _ m is.event refl (λ lock was. was)) (task-kept Same s e _ u is.event refl (λ task was. was) (record { owner = λ task was. was; other = λ task was. was; woken = λ task was. was }))
-    by_kind (by_acquire l (is_fast is)) = by_same (lock-kept Rows s e _ m is.event refl (λ lock was. was)) (task-kept Same s e _ u is.event refl (λ task was. was) (record { owner = λ task was. was; other = λ task was. was; woken = λ task was. was }))
-    by_kind (by_acquire l (is_mark is)) = by_same (lock-kept Rows s e _ m is.event refl (λ lock was. was)) (task-kept Same s e _ u is.event refl (λ task was. was) (record { owner = λ task was. was; other = λ task was. was; woken = λ task was. was }))
     by_kind (by_acquire l (is_take is)) = take-row s made t e l is m u lawful
     by_kind (by_wait l (is_wait is)) = wait-row s made t e l is m u lawful
-    by_kind (by_wait l (is_again is)) = by_same (lock-kept Rows s e _ m is.event refl (λ lock was. was)) (task-kept Same s e _ u is.event refl (λ task was. was) (record { owner = λ task was. was; other = λ task was. was; woken = λ task was. was }))
-    by_kind (by_release l (is_free is)) = by_same (lock-kept Rows s e _ m is.event refl (λ lock was. was)) (task-kept Same s e _ u is.event refl (λ task was. was) (record { owner = λ task was. was; other = λ task was. was; woken = λ task was. was }))
-    by_kind (by_release l (is_give is)) =
-        by_same (lock-kept Rows s e _ m is.event refl (λ lock was. was))
-        (task-kept Same s e _ u is.event refl (λ task was. with_top-blocked (Some l) None task ∙ was)
-        (record { owner = λ task was. was; other = λ task was. was; woken = λ task was. (lock_woken-like (spins (kind_of (thread_part s t) l)) task).blocked ∙ was }))
+    by_kind (by_own call answer is) = still _ is.event refl
+    by_kind (by_acquire l (is_fast is)) = still _ is.event refl
+    by_kind (by_acquire l (is_mark is)) = still _ is.event refl
+    by_kind (by_wait l (is_again is)) = still _ is.event refl
+    by_kind (by_release l (is_free is)) = still _ is.event refl
+    by_kind (by_release l (is_give is)) = still _ is.event refl
 
 -- rows law
 pub RowsLaw-next : (s : State) (made : ℕ) (t : TaskId) (e : Event) → IsLawful s made → IsNext s t e → RowsLaw (state_after s e) (suc made)

@@ -23,3 +23,8 @@ pub mod Named
 -- the laws, one a file, and that a next event keeps all of them
 pub mod laws
 pub mod Lawful
+-- where a run starts, every state along it, and what is played
+pub mod Starts
+pub mod Prefixes
+pub mod Runs
+pub mod Lowest

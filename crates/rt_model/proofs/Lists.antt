@@ -130,6 +130,12 @@ pub map-map : {X Y Z : Type 0} (g : Y → Z) (f : X → Y) (xs : List X) → map
 map-map g f [] = refl
 map-map g f (x ∷ xs) = ap (λ ys. g (f x) ∷ ys) (map-map g f xs)
 
+-- an element that is there, seen by f
+pub read-map : {X Y : Type 0} (f : X → Y) (xs : List X) (i : ℕ) (d : X) (e : Y) → i < length xs → unwrap_or (slice_get (map f xs) i) e ≡ f (unwrap_or (slice_get xs i) d)
+read-map f [] i d e lt = absurd (omega arith)
+read-map f (x ∷ xs) zero d e lt = refl
+read-map f (x ∷ xs) (suc i) d e lt = read-map f xs i d e (omega arith)
+
 -- what holds of each of two facts holds of both
 pub All-both : {X : Type 0} (P Q R : X → Type 0) → ((x : X) → P x → Q x → R x) → (xs : List X) → All P xs → All Q xs → All R xs
 All-both P Q R both [] p q = All-nil R

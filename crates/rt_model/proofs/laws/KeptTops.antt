@@ -56,26 +56,15 @@ nothing rows false is = refl
 
 -- ---- told by the kind
 
--- an event of this kind may change what is kept of its lock, and no other does any
-abbrev keeps_tops : EventKind → Bool
-keeps_tops kinds.Take = false
-keeps_tops kinds.Wait = false
-keeps_tops kinds.Give = false
-keeps_tops _ = true
+-- the lock of which an event of this kind changes what is kept
+abbrev tops_of : EventKind → Event → Option LockId
+tops_of kinds.Take e = e.lock
+tops_of kinds.Wait e = e.lock
+tops_of kinds.Give e = e.lock
+tops_of _ e = None
 
-same-own : (kept : List (Option ℕ)) (kind : EventKind) (e : Event) (th : ThreadPart) → keeps_tops kind ≡ true → (found : Around) (lock : OwnerPart) (task : TaskPart) → task.kept ≡ kept → ((effect kind e th found).own lock task).kept ≡ kept
-same-own kept kinds.Take e th is found lock task was = cc
-same-own kept kinds.Wait e th is found lock task was = cc
-same-own kept kinds.Give e th is found lock task was = cc
-same-own kept _ e th is found lock task was = was
-
-same-others : (kept : List (Option ℕ)) (kind : EventKind) (e : Event) (th : ThreadPart) → keeps_tops kind ≡ true → (found : Around) (lock : OwnerPart) → OthersKeep (λ task. task.kept ≡ kept) (effect kind e th found) lock
-same-others kept kinds.Wait e th is found lock = cc
-same-others kept kinds.Give e th is found lock = cc
-same-others kept _ e th is found lock = record { owner = λ task was. was; other = λ task was. was; woken = λ task was. was }
-
--- what is kept of other locks than its own stays, whatever the event
-there-own : (m : LockId) (top : Option ℕ) (kind : EventKind) (e : Event) (th : ThreadPart) → IsApartFrom m e.lock → (found : Around) (lock : OwnerPart) (task : TaskPart) → kept_of task m ≡ top → kept_of ((effect kind e th found).own lock task) m ≡ top
+there-own : (m : LockId) (top : Option ℕ) (kind : EventKind) (e : Event) (th : ThreadPart) → IsApartFrom m (tops_of kind e)
+    → (found : Around) (lock : OwnerPart) (task : TaskPart) → kept_of task m ≡ top → kept_of ((effect kind e th found).own lock task) m ≡ top
 there-own m top kinds.Take e th ne found lock task was =
     let left : TaskPart = leave_queue (spins (kind_named th e.lock)) task in
     with_top-there e.lock m (top_key lock.rows) left ne ∙ (kept-same m task left (leave_queue-like (spins (kind_named th e.lock)) task).kept ∙ was)
@@ -84,12 +73,19 @@ there-own m top kinds.Wait e th ne found lock task was =
 there-own m top kinds.Give e th ne found lock task was = with_top-there e.lock m None task ne ∙ was
 there-own m top _ e th ne found lock task was = was
 
-there-others : (m : LockId) (top : Option ℕ) (kind : EventKind) (e : Event) (th : ThreadPart) → IsApartFrom m e.lock → (found : Around) (lock : OwnerPart) → OthersKeep (λ task. kept_of task m ≡ top) (effect kind e th found) lock
+there-others : (m : LockId) (top : Option ℕ) (kind : EventKind) (e : Event) (th : ThreadPart) → IsApartFrom m (tops_of kind e) → (found : Around) (lock : OwnerPart) → OthersKeep (λ task. kept_of task m ≡ top) (effect kind e th found) lock
 there-others m top kinds.Wait e th ne found lock = record { owner = λ task was. with_top-there e.lock m (top_key lock.rows) task ne ∙ was; other = λ task was. was; woken = λ task was. was }
 there-others m top kinds.Give e th ne found lock =
     let spinning : Bool = spins (kind_named th e.lock) in
     record { owner = λ task was. was; other = λ task was. was; woken = λ task was. kept-same m task (lock_woken spinning task) (lock_woken-like spinning task).like.kept ∙ was }
 there-others m top _ e th ne found lock = record { owner = λ task was. was; other = λ task was. was; woken = λ task was. was }
+
+-- of an event on lock l it is that lock, or none
+apart-on : (m l : LockId) (kind : EventKind) (e : Event) → e.lock ≡ Some l → nat_eq l.0 m.0 ≡ false → IsApartFrom m (tops_of kind e)
+apart-on m l kinds.Take e on ne = subst (IsApartFrom m) (sym on) ne
+apart-on m l kinds.Wait e on ne = subst (IsApartFrom m) (sym on) ne
+apart-on m l kinds.Give e on ne = subst (IsApartFrom m) (sym on) ne
+apart-on m l _ e on ne = tt
 
 -- ---- the law
 
@@ -98,25 +94,18 @@ abbrev KeepsTop : LockId → TaskId → OwnerPart → TaskPart → Type 0
 KeepsTop l u lock task = kept_of task l ≡ (if owned_by lock.owner u then top_key lock.rows else None)
 
 module _ (s : State) (made : ℕ) (t : TaskId) (e : Event) (u : TaskId) (lawful : IsLawful s made) where
-  -- the event comes about as x, which is on lock l, where the law holds afterwards
+  -- an event that comes about as x changes nothing that is kept of m
+  same : (x : Event) (m : LockId) → e ≡ x → IsApartFrom m (tops_of x.kind x) → KeepsTop m u (owner_part s m) (task_part (state_after s e) u)
+  same x m is ne =
+      let th = thread_part s e.task in
+      let top = kept_of (task_part s u) m in
+      let apart : IsApartFrom m (tops_of e.kind e) = subst (λ (y : Event). IsApartFrom m (tops_of y.kind y)) (sym is) ne in
+      task-keeps (λ task. kept_of task m ≡ top) s e u refl (there-own m top e.kind e th apart) (there-others m top e.kind e th apart) ∙ lawful.kept m u
+
+  -- so the law holds afterwards, where it does at the event's lock
   on_lock : (x : Event) (l m : LockId) → e ≡ x → x.lock ≡ Some l → (touched x.kind x).lock ≡ Some l → l.0 < length s.locks
       → KeepsTop l u ((effect_in (shared s) (thread_part s x.task) x).lock (owner_part s l)) (task_part (state_after s e) u) → KeepsTop m u (owner_part (state_after s e) m) (task_part (state_after s e) u)
-  on_lock x l m is on named lt here = lock-made (λ k lock. KeepsTop k u lock (task_part (state_after s e) u)) s e x l m is named lt here elsewhere
-    where
-      elsewhere : nat_eq l.0 m.0 ≡ false → KeepsTop m u (owner_part s m) (task_part (state_after s e) u)
-      elsewhere ne =
-          let th = thread_part s e.task in
-          let top = kept_of (task_part s u) m in
-          let apart : IsApartFrom m e.lock = subst (IsApartFrom m) (sym (ap (λ (y : Event). y.lock) is ∙ on)) ne in
-          task-keeps (λ task. kept_of task m ≡ top) s e u refl (there-own m top e.kind e th apart) (there-others m top e.kind e th apart) ∙ lawful.kept m u
-
-  -- and changes no kept top
-  same : (x : Event) (m : LockId) → e ≡ x → keeps_tops x.kind ≡ true → KeepsTop m u (owner_part s m) (task_part (state_after s e) u)
-  same x m is keeps =
-      let th = thread_part s e.task in
-      let kept = (task_part s u).kept in
-      let kind : keeps_tops e.kind ≡ true = ap (λ (y : Event). keeps_tops y.kind) is ∙ keeps in
-      kept-same m (task_part s u) (task_part (state_after s e) u) (task-keeps (λ task. task.kept ≡ kept) s e u refl (same-own kept e.kind e th kind) (same-others kept e.kind e th kind)) ∙ lawful.kept m u
+  on_lock x l m is on named lt here = lock-made (λ k lock. KeepsTop k u lock (task_part (state_after s e) u)) s e x l m is named lt here (λ there. same x m is (apart-on m l x.kind x on there))
 
   take-here : (l : LockId) → IsTake s t l e → KeepsTop l u (taken_by t (owner_part s l)) (task_part (state_after s e) u)
   take-here l is =
@@ -158,16 +147,16 @@ KeptTopsLaw-next s made t e lawful next m u = by_kind next
     Keeps lock = KeepsTop m u lock (task_part (state_after s e) u)
 
     by_kind : IsNext s t e → Keeps (owner_part (state_after s e) m)
-    by_kind (by_own call answer is) = lock-kept Keeps s e _ m is.event (same s made t e u lawful _ m is.event refl) (λ lock was. was)
-    by_kind (by_acquire l (is_mark is)) = lock-kept Keeps s e _ m is.event (same s made t e u lawful _ m is.event refl) (λ lock was. was)
-    by_kind (by_wait l (is_again is)) = lock-kept Keeps s e _ m is.event (same s made t e u lawful _ m is.event refl) (λ lock was. was)
+    by_kind (by_own call answer is) = lock-kept Keeps s e _ m is.event (same s made t e u lawful _ m is.event tt) (λ lock was. was)
+    by_kind (by_acquire l (is_mark is)) = lock-kept Keeps s e _ m is.event (same s made t e u lawful _ m is.event tt) (λ lock was. was)
+    by_kind (by_wait l (is_again is)) = lock-kept Keeps s e _ m is.event (same s made t e u lawful _ m is.event tt) (λ lock was. was)
     by_kind (by_acquire l (is_fast is)) =
         let none : (owner_part s l).rows ≡ [] = (lawful.rows.queue l).clear is.bit in
         on_lock s made t e u lawful _ l m is.event refl refl is.at.served
-        (same s made t e u lawful _ l is.event refl ∙ (nothing (owner_part s l).rows (owned_by (owner_part s l).owner u) none ∙ sym (nothing (owner_part s l).rows (nat_eq t.0 u.0) none)))
+        (same s made t e u lawful _ l is.event tt ∙ (nothing (owner_part s l).rows (owned_by (owner_part s l).owner u) none ∙ sym (nothing (owner_part s l).rows (nat_eq t.0 u.0) none)))
     by_kind (by_release l (is_free is)) =
         let none : (owner_part s l).rows ≡ [] = (lawful.rows.queue l).clear is.bit in
-        on_lock s made t e u lawful _ l m is.event refl refl is.at.served (same s made t e u lawful _ l is.event refl ∙ nothing (owner_part s l).rows (owned_by (owner_part s l).owner u) none)
+        on_lock s made t e u lawful _ l m is.event refl refl is.at.served (same s made t e u lawful _ l is.event tt ∙ nothing (owner_part s l).rows (owned_by (owner_part s l).owner u) none)
     by_kind (by_acquire l (is_take is)) = on_lock s made t e u lawful _ l m is.event refl refl is.at.served (take-here s made t e u lawful l is)
     by_kind (by_wait l (is_wait is)) = on_lock s made t e u lawful _ l m is.event refl refl is.at.served (wait-here s made t e u lawful l is)
     by_kind (by_release l (is_give is)) = on_lock s made t e u lawful _ l m is.event refl refl is.at.served (give-here s made t e u lawful l is)

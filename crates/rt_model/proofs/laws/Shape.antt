@@ -27,6 +27,7 @@ use Rattle.rt_model.specs.laws.Shape.{IsShaped, IsOf, SameSize}
 use Rattle.rt_model.proofs.Lists.{length-update, All-update, All-default, length-at_lock, length-at_task, All-at_lock, All-at_task}
 use Rattle.rt_model.proofs.Queues.{All-insert_row}
 use Rattle.rt_model.proofs.CellStepLemmas.{leave_queue-like, blocked_on-like, lock_woken-like, length-with_top}
+use Rattle.rt_model.proofs.PartsAfter.{thread-phase}
 use Rattle.rt_model.proofs.Within.{HoldsFit}
 use Rattle.std.proofs.lemmas.List.{length-map}
 
@@ -87,15 +88,12 @@ long-left _ e th found lock = record { own = λ task. refl; owner = λ task. ref
 
 -- ---- a thread
 
--- what the thread's change and an answer leave
+-- what an event leaves as it was
 pub record KeepsThread (before after : ThreadPart) : Type 0 where
   pub kinds : after.kinds ≡ before.kinds
   pub calls : after.calls ≡ before.calls
+  pub cpu : after.cpu ≡ before.cpu
   pub holds : length after.holds ≡ length before.holds
-
-phase-left : (kind : EventKind) (e : Event) (th : ThreadPart) (found left : Around) (old : ThreadPart) → KeepsThread old ((effect kind e th found).thread left old)
-phase-left kinds.Mark e th found left old = record { kinds = refl; calls = refl; holds = refl }
-phase-left _ e th found left old = record { kinds = refl; calls = refl; holds = refl }
 
 length-holds_after : (thread : ThreadPart) (call : Option Call) (answer : Reply) → length (holds_after thread call answer) ≡ length thread.holds
 length-holds_after thread (Some (calls.Lock l)) replies.Got = simp length-set
@@ -103,14 +101,20 @@ length-holds_after thread (Some (calls.Unlock l)) replies.Done = simp length-set
 length-holds_after thread call answer = refl
 
 answer-left : (thread : ThreadPart) (reply : Option Reply) → KeepsThread thread (answered_with thread reply)
-answer-left thread None = record { kinds = refl; calls = refl; holds = refl }
-answer-left thread (Some answer) = record { kinds = refl; calls = refl; holds = length-holds_after thread (call_of thread) answer }
+answer-left thread None = record { kinds = refl; calls = refl; cpu = refl; holds = refl }
+answer-left thread (Some answer) = record { kinds = refl; calls = refl; cpu = refl; holds = length-holds_after thread (call_of thread) answer }
 
 pub thread-keeps : (sh : Shared) (th : ThreadPart) (e : Event) → KeepsThread th (thread_after sh th e)
 thread-keeps sh th e =
-    let phased = phase-left e.kind e th (around sh (touched e.kind e)) (around (shared_after sh th e) (touched e.kind e)) th in
-    let answered = answer-left ((effect_in sh th e).thread (around (shared_after sh th e) (touched e.kind e)) th) e.reply in
-    record { kinds = answered.kinds ∙ phased.kinds; calls = answered.calls ∙ phased.calls; holds = answered.holds ∙ phased.holds }
+    let left = around (shared_after sh th e) (touched e.kind e) in
+    let moved = thread-phase e.kind e th (around sh (touched e.kind e)) left th in
+    let answered = answer-left ((effect_in sh th e).thread left th) e.reply in
+    record {
+      kinds = answered.kinds ∙ ap (λ (thread : ThreadPart). thread.kinds) moved;
+      calls = answered.calls ∙ ap (λ (thread : ThreadPart). thread.calls) moved;
+      cpu = answered.cpu ∙ ap (λ (thread : ThreadPart). thread.cpu) moved;
+      holds = answered.holds ∙ ap (λ (thread : ThreadPart). length thread.holds) moved;
+    }
 
 -- ---- the state
 

@@ -1,5 +1,5 @@
 -- Which events change the rows of a lock and what a task is blocked on.
-use Rattle.std.proofs.Common.{◌≡◌, ℕ, Bool, true, false, List, refl, ap, ◌∙◌, Option}
+use Rattle.std.proofs.Common.{◌≡◌, ℕ, Bool, true, false, refl, ap, ◌∙◌, Option}
 use Rattle.std.specs.Prelude.{nat_eq}
 use Rattle.rt_base.specs.Kind.{spins}
 use Rattle.rt_base.specs.declared.id.LockId.{LockId}
@@ -7,7 +7,6 @@ use Rattle.rt_base.specs.declared.id.TaskId.{TaskId}
 use Rattle.rt_model.specs.declared.event.Event.{Event}
 use Rattle.rt_model.specs.declared.event_kind.EventKind.{EventKind}
 use Rattle.rt_model.specs.declared.event_kind.EventKind.TheVariants as kinds
-use Rattle.rt_model.specs.declared.row.Row.{Row}
 use Rattle.rt_model.specs.Parts.{OwnerPart, TaskPart, ThreadPart, kind_named}
 use Rattle.rt_model.specs.State.{State, shared, owner_part, task_part, thread_part}
 use Rattle.rt_model.specs.Effect.{Around, around}

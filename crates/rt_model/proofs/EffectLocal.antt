@@ -5,13 +5,12 @@ use Rattle.rt_base.specs.declared.id.LockId.{LockId}
 use Rattle.rt_base.specs.declared.id.TaskId.{TaskId}
 use Rattle.rt_model.specs.declared.event.Event.{Event}
 use Rattle.rt_model.specs.declared.obj.Obj.TheVariants as objects
-use Rattle.rt_model.specs.declared.reader_cell.ReaderCell.{ReaderCell}
 use Rattle.rt_model.specs.Parts.{OwnerPart, TaskPart, ThreadPart}
-use Rattle.rt_model.specs.State.{State, Shared, shared, lock_in, lock_at, task_in, task_at, readers_at, free_lock, no_readers, no_task, of_lock, of_readers, of_task, of_thread, owner_part, reader_part, task_part, thread_part}
-use Rattle.rt_model.specs.Effect.{Touched, Around, Effect, around}
+use Rattle.rt_model.specs.State.{State, shared, free_lock, no_readers, no_task, of_lock, of_readers, of_task, of_thread, owner_part, reader_part, task_part, thread_part}
+use Rattle.rt_model.specs.Effect.{Touched, Effect, around}
 use Rattle.rt_model.specs.Rules.{touched, effect as effect_of_kind}
 use Rattle.rt_model.specs.Footprint.{touches}
-use Rattle.rt_model.specs.StateAfter.{update, at_lock, at_task, effect_in, lock_left, tasks_left, shared_after, thread_after, state_after}
+use Rattle.rt_model.specs.StateAfter.{update, at_lock, at_task, effect_in, lock_left, tasks_left, thread_after, state_after}
 use Rattle.rt_model.specs.steps.Thread.{answered_with}
 use Rattle.rt_model.specs.laws.Local.{AgreeOn}
 use Rattle.rt_model.specs.laws.Shape.{SameSize}

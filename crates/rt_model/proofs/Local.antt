@@ -23,7 +23,7 @@ use Rattle.rt_model.specs.NextEvent.{answered_or, first_event, later_event, even
 use Rattle.rt_model.specs.laws.Local.{AgreeOn}
 use Rattle.rt_model.proofs.EffectLocal.{agree-thread, agree-shared}
 use Rattle.rt_model.proofs.Touching.{touches-thread}
-use Rattle.rt_model.proofs.Alike.{Alike, GivesAlike, gives_alike}
+use Rattle.rt_model.proofs.Alike.{GivesAlike, gives_alike}
 use Rattle.rt_model.proofs.events.Acquire.{same-acquire}
 use Rattle.rt_model.proofs.events.Release.{same-release}
 use Rattle.rt_model.proofs.events.Wait.{same-slow, same-queued}

@@ -1,7 +1,7 @@
 -- The parts of the state that an event leaves, each read at its number.
 use Rattle.std.proofs.lemmas.Option.{unwrap_or-slice_get}
 use Rattle.std.proofs.lemmas.List.{get_or-set_same, get_or-set_other}
-use Rattle.std.proofs.Common.{◌≡◌, ◌⊎◌, inl, inr, ℕ, zero, suc, ◌<◌, Bool, true, false, List, [], ◌∷◌, length, refl, sym, ap, ◌∙◌, subst, arith, Option, Some, None, IfSome, unwrap_or, get_or}
+use Rattle.std.proofs.Common.{◌≡◌, ◌⊎◌, inl, inr, ℕ, zero, suc, ◌<◌, Bool, true, false, List, [], ◌∷◌, length, refl, sym, ap, ◌∙◌, subst, arith, Option, Some, None, IfSome, unwrap_or}
 use Rattle.std.specs.Prelude.{slice_get, nat_eq, slice_set}
 use Rattle.rt_base.specs.declared.id.LockId.{LockId}
 use Rattle.rt_base.specs.declared.id.TaskId.{TaskId}
@@ -15,7 +15,7 @@ use Rattle.rt_model.specs.Rules.{touched, effect}
 use Rattle.rt_model.specs.laws.Owners.{owned_by}
 use Rattle.rt_model.specs.StateAfter.{update, at_lock, at_task, effect_in, lock_left, thread_after, state_after}
 use Rattle.rt_model.proofs.Lists.{update-other, at_lock-none, length-at_task}
-use Rattle.rt_model.proofs.Numbers.{same_lock, same_task, other_number, at_each_lock, at_each_task}
+use Rattle.rt_model.proofs.Numbers.{same_task, other_number, at_each_lock, at_each_task}
 
 -- an element of a list with one written
 pub read-set_same : {X : Type 0} (xs : List X) (i : ℕ) (x d : X) → i < length xs → unwrap_or (slice_get (slice_set xs i x) i) d ≡ x

@@ -1,6 +1,6 @@
 -- A next event keeps the awake-top law.
-use Rattle.std.proofs.Common.{◌≡◌, ◌≢◌, ℕ, ◌<◌, Bool, true, false, cond, List, length, refl, sym, ap, ◌∙◌, subst, arith, Option, Some, None, IfSome}
-use Rattle.std.specs.Prelude.{nat_eq, is_some, option_map, slice_get, unwrap_or}
+use Rattle.std.proofs.Common.{◌≡◌, ◌≢◌, ℕ, ◌<◌, Bool, false, cond, List, length, refl, sym, ap, ◌∙◌, subst, arith, Option, Some, None, IfSome}
+use Rattle.std.specs.Prelude.{nat_eq, option_map, slice_get, unwrap_or}
 use Rattle.std.proofs.lemmas.Bool.{cond_both}
 use Rattle.std.proofs.lemmas.Bool.Decides.{nat_tests}
 use Rattle.rt_base.specs.Kind.{spins}
@@ -10,16 +10,12 @@ use Rattle.rt_base.specs.declared.id.TaskId.{TaskId}
 use Rattle.rt_base.specs.declared.state.TaskState.{TaskState}
 use Rattle.rt_base.specs.declared.state.TaskState.TheVariants as states
 use Rattle.rt_model.specs.declared.event.Event.{Event}
-use Rattle.rt_model.specs.declared.event_kind.EventKind.{EventKind}
-use Rattle.rt_model.specs.declared.event_kind.EventKind.TheVariants as kinds
 use Rattle.rt_model.specs.declared.row.Row.{Row}
-use Rattle.rt_model.specs.Parts.{OwnerPart, TaskPart, ThreadPart, effective_of, kind_of, kind_named}
-use Rattle.rt_model.specs.Rows.{top_waiter, top_key, top_task, task_of, is_of, insert_row}
-use Rattle.rt_model.specs.State.{State, shared, no_task, owner_part, task_part, thread_part}
+use Rattle.rt_model.specs.Parts.{OwnerPart, TaskPart, effective_of, kind_of}
+use Rattle.rt_model.specs.Rows.{top_waiter, top_task, task_of, is_of, insert_row}
+use Rattle.rt_model.specs.State.{State, no_task, owner_part, task_part, thread_part}
 use Rattle.rt_model.specs.steps.Task.{with_top, sleeps, woken_up, lock_woken}
-use Rattle.rt_model.specs.Effect.{Around, around}
-use Rattle.rt_model.specs.Rules.{touched, effect}
-use Rattle.rt_model.specs.StateAfter.{at_task, lock_left, state_after}
+use Rattle.rt_model.specs.StateAfter.{at_task, state_after}
 use Rattle.rt_model.specs.laws.AwakeTop.{AwakeTopLaw}
 use Rattle.rt_model.specs.laws.Lawful.{IsLawful}
 use Rattle.rt_model.specs.laws.Owners.{owned_by}
@@ -30,7 +26,7 @@ use Rattle.rt_model.proofs.events.Acquire.{is_fast, is_mark, is_take}
 use Rattle.rt_model.proofs.events.Wait.{IsWait, IsAgain, is_wait, is_again}
 use Rattle.rt_model.proofs.events.Release.{IsGive, is_free, is_give}
 use Rattle.rt_model.proofs.Numbers.{number_itself, at_each_lock}
-use Rattle.rt_model.proofs.PartsAfter.{OthersKeep, lock-kept, lock-made, task-keeps, other-keeps, slot-keeps, slot-left}
+use Rattle.rt_model.proofs.PartsAfter.{lock-kept, lock-made, task-keeps, other-keeps, slot-keeps, slot-left}
 use Rattle.rt_model.proofs.Queues.{none_of, top-at, not_top, queued_after}
 use Rattle.rt_model.proofs.TaskStates.{HasState, sends_to_sleep, state-own, state-others}
 use Rattle.rt_model.proofs.Waiters.{slow-unqueued, wait-elsewhere}
@@ -163,5 +159,8 @@ AwakeTopLaw-next s made t e lawful next m = by_kind next
     by_kind (by_wait l (is_wait is)) = lock-made Awake s e _ l m is.event refl is.at.served (wait-here s made t e lawful l is) (λ there. wait-awake s made t e lawful l m is)
     by_kind (by_wait l (is_again is)) = lock-kept (Awake m) s e _ m is.event (again-awake s made t e lawful l m is) (λ lock was. was)
     by_kind (by_release l (is_free is)) =
-        lock-made Awake s e _ l m is.event refl is.at.served (λ none. subst (λ (rows : List Row). IfSome (top_waiter rows) (Runs (state_after s e))) (sym ((lawful.rows.queue l).clear is.bit)) tt) (λ there. all_awake s made t e lawful _ m is.event refl)
-    by_kind (by_release l (is_give is)) = lock-made Awake s e _ l m is.event refl is.at.served (λ none. if_found (top_waiter (owner_part s l).rows) (Runs (state_after s e)) (give-here s made t e lawful l is)) (λ there. all_awake s made t e lawful _ m is.event refl)
+        lock-made Awake s e _ l m is.event refl is.at.served
+        (λ none. subst (λ (rows : List Row). IfSome (top_waiter rows) (Runs (state_after s e))) (sym ((lawful.rows.queue l).clear is.bit)) tt) (λ there. all_awake s made t e lawful _ m is.event refl)
+    by_kind (by_release l (is_give is)) =
+        lock-made Awake s e _ l m is.event refl is.at.served
+        (λ none. if_found (top_waiter (owner_part s l).rows) (Runs (state_after s e)) (give-here s made t e lawful l is)) (λ there. all_awake s made t e lawful _ m is.event refl)

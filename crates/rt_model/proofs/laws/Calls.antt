@@ -15,18 +15,17 @@ use Rattle.rt_base.specs.declared.kind.Kind.TheVariants.{Mutex}
 use Rattle.rt_base.specs.declared.reply.Reply.{Reply}
 use Rattle.rt_base.specs.declared.reply.Reply.TheVariants as replies
 use Rattle.rt_model.specs.declared.event.Event.{Event}
-use Rattle.rt_model.specs.declared.event_kind.EventKind.{EventKind}
 use Rattle.rt_model.specs.declared.event_kind.EventKind.TheVariants as kinds
 use Rattle.rt_model.specs.declared.hold.Hold.{Hold}
 use Rattle.rt_model.specs.declared.phase.Phase.{Phase}
 use Rattle.rt_model.specs.Parts.{ThreadPart, call_of}
-use Rattle.rt_model.specs.State.{State, shared, start, fresh_thread, no_thread, kinds_in, thread_part}
+use Rattle.rt_model.specs.State.{State, shared, start, fresh_thread, kinds_in, thread_part}
 use Rattle.rt_model.specs.steps.Thread.{answered_with}
-use Rattle.rt_model.specs.Effect.{Around, around}
+use Rattle.rt_model.specs.Effect.{around}
 use Rattle.rt_model.specs.Choice.{called_lock}
 use Rattle.rt_model.specs.events.Own.{unless_nested, if_held, if_not_held, spinning_holds}
-use Rattle.rt_model.specs.Rules.{touched, effect}
-use Rattle.rt_model.specs.StateAfter.{effect_in, shared_after, thread_after, state_after}
+use Rattle.rt_model.specs.Rules.{touched}
+use Rattle.rt_model.specs.StateAfter.{effect_in, shared_after, state_after}
 use Rattle.rt_model.specs.Run.{after, IsRun, is_at_end, is_done, is_stuck, ended_of}
 use Rattle.rt_model.specs.Stage.{IsStaged}
 use Rattle.rt_model.specs.laws.Lawful.{IsLawful}

@@ -3,7 +3,6 @@ use Rattle.std.proofs.Common.{◌≡◌, ℕ, ◌<◌, Bool, true, false, cond, 
 use Rattle.std.specs.Prelude.{nat_eq, slice_get, if◌then◌else◌}
 use Rattle.std.proofs.lemmas.Bool.{cond-true, cond-false}
 use Rattle.rt_base.specs.Kind.{spins}
-use Rattle.rt_base.specs.declared.call.Call.{Call}
 use Rattle.rt_base.specs.declared.id.LockId.{LockId}
 use Rattle.rt_base.specs.declared.id.TaskId.{TaskId}
 use Rattle.rt_model.specs.declared.event.Event.{Event}
@@ -18,15 +17,14 @@ use Rattle.rt_model.specs.steps.Lock.{taken_by, queued}
 use Rattle.rt_model.specs.Effect.{Around}
 use Rattle.rt_model.specs.Rules.{touched, effect}
 use Rattle.rt_model.specs.StateAfter.{effect_in, state_after}
-use Rattle.rt_model.specs.laws.Shape.{IsShaped}
 use Rattle.rt_model.specs.laws.Lawful.{IsLawful}
 use Rattle.rt_model.specs.laws.KeptTops.{KeptTopsLaw, kept_of}
 use Rattle.rt_model.specs.laws.Owners.{owned_by}
 use Rattle.rt_model.proofs.CellStepLemmas.{leave_queue-like, lock_woken-like, blocked_on-like}
 use Rattle.rt_model.proofs.NextEvents.{IsNext, by_own, by_acquire, by_wait, by_release}
-use Rattle.rt_model.proofs.events.Acquire.{IsFast, IsTake, is_fast, is_mark, is_take}
+use Rattle.rt_model.proofs.events.Acquire.{IsTake, is_fast, is_mark, is_take}
 use Rattle.rt_model.proofs.events.Wait.{IsWait, is_wait, is_again}
-use Rattle.rt_model.proofs.events.Release.{IsFree, IsGive, is_free, is_give}
+use Rattle.rt_model.proofs.events.Release.{IsGive, is_free, is_give}
 use Rattle.rt_model.proofs.PartsAfter.{read-set_same, read-set_other, OthersKeep, lock-made, lock-kept, task-keeps, own-made, owner-made}
 use Rattle.rt_model.proofs.Within.{owner_within, owner_room, kept_room, task_room}
 use Rattle.rt_model.proofs.Numbers.{one_owner, owner-holds, number_itself}

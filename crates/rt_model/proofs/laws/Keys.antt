@@ -1,5 +1,5 @@
 -- A next event keeps the keys law.
-use Rattle.std.proofs.Common.{◌≡◌, inl, inr, ℕ, Bool, true, false, List, refl, sym, ap, ◌∙◌, subst, Option, Some, None, IfSome}
+use Rattle.std.proofs.Common.{◌≡◌, inl, inr, ℕ, Bool, true, false, refl, sym, ap, ◌∙◌, subst, Option, Some, None, IfSome}
 use Rattle.std.specs.Prelude.{nat_eq}
 use Rattle.rt_base.specs.Kind.{spins}
 use Rattle.rt_base.specs.declared.call.Call.{Call}
@@ -14,20 +14,19 @@ use Rattle.rt_model.specs.declared.phase.Phase.{Phase}
 use Rattle.rt_model.specs.declared.phase.Phase.TheVariants as phases
 use Rattle.rt_model.specs.Parts.{OwnerPart, TaskPart, ThreadPart, call_of, effective_of, kind_of, kind_named}
 use Rattle.rt_model.specs.Rows.{top_key}
-use Rattle.rt_model.specs.State.{State, shared, task_at, owner_part, task_part, thread_part}
+use Rattle.rt_model.specs.State.{State, owner_part, task_part, thread_part}
 use Rattle.rt_model.specs.steps.Task.{with_top, rest_of, blocked_on, leave_queue}
-use Rattle.rt_model.specs.Effect.{Around, around}
-use Rattle.rt_model.specs.Rules.{touched, effect}
-use Rattle.rt_model.specs.StateAfter.{lock_left, state_after}
+use Rattle.rt_model.specs.Effect.{Around}
+use Rattle.rt_model.specs.Rules.{effect}
+use Rattle.rt_model.specs.StateAfter.{state_after}
 use Rattle.rt_model.specs.Stage.{IsPhaseOf}
-use Rattle.rt_model.specs.events.Wait.{wait_event}
 use Rattle.rt_model.specs.laws.Keys.{StandsAt, IsToConfirm, IsNamed, KeysLaw}
 use Rattle.rt_model.specs.laws.Lawful.{IsLawful}
 use Rattle.rt_model.specs.laws.Owners.{owned_by}
 use Rattle.rt_model.proofs.Blocked.{blocked-other}
 use Rattle.rt_model.proofs.CellStepLemmas.{IsWoken, effective-like, leave_queue-blocked, with_top-blocked, lock_woken-like, blocked_on-like}
 use Rattle.rt_model.proofs.Lists.{if_some}
-use Rattle.rt_model.proofs.NextEvents.{IsNext, by_own, by_acquire, by_wait, by_release, task-IsNext}
+use Rattle.rt_model.proofs.NextEvents.{IsNext, by_own, by_acquire, by_wait, by_release}
 use Rattle.rt_model.proofs.events.Acquire.{is_fast, is_mark, is_take}
 use Rattle.rt_model.proofs.events.Wait.{IsWait, is_wait, is_again}
 use Rattle.rt_model.proofs.events.Release.{IsGive, is_free, is_give}

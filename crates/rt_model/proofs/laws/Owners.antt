@@ -24,7 +24,7 @@ use Rattle.rt_model.proofs.NextEvents.{IsNext, by_own, by_acquire, by_wait, by_r
 use Rattle.rt_model.proofs.events.Acquire.{is_fast, is_mark, is_take}
 use Rattle.rt_model.proofs.events.Wait.{is_wait, is_again}
 use Rattle.rt_model.proofs.events.Release.{is_free, is_give}
-use Rattle.rt_model.proofs.Numbers.{number_itself, same_lock, at_each_task, nobodys, one_owner}
+use Rattle.rt_model.proofs.Numbers.{number_itself, same_lock, nobodys, one_owner}
 use Rattle.rt_model.proofs.Queues.{unowned-can_take}
 use Rattle.rt_model.proofs.Within.{holds_room}
 use Rattle.rt_model.proofs.PartsAfter.{read-set_same, read-set_other, lock-made, lock-kept, thread-made}

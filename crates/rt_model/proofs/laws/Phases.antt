@@ -1,31 +1,23 @@
 -- A next event keeps the phases law.
-use Rattle.std.proofs.Common.{◌≡◌, ℕ, ◌<◌, Bool, true, false, length, refl, sym, ap, ◌∙◌, subst, Option, Some, None, arith}
-use Rattle.std.specs.Prelude.{nat_eq, is_some}
-use Rattle.std.proofs.lemmas.Bool.Decides.{nat_tests}
+use Rattle.std.proofs.Common.{◌≡◌, ℕ, ◌<◌, length, sym, subst, Some}
 use Rattle.rt_base.specs.declared.call.Call.{Call}
 use Rattle.rt_base.specs.declared.call.Call.TheVariants as calls
-use Rattle.rt_base.specs.declared.id.LockId.{LockId}
 use Rattle.rt_base.specs.declared.id.TaskId.{TaskId}
 use Rattle.rt_model.specs.declared.event.Event.{Event}
 use Rattle.rt_model.specs.declared.phase.Phase.{Phase}
 use Rattle.rt_model.specs.declared.phase.Phase.TheVariants as phases
-use Rattle.rt_model.specs.Parts.{TaskPart, ThreadPart, call_of}
-use Rattle.rt_model.specs.State.{State, shared, task_at, owner_part, task_part, thread_part}
+use Rattle.rt_model.specs.Parts.{ThreadPart, call_of}
+use Rattle.rt_model.specs.State.{State, shared, owner_part, thread_part}
 use Rattle.rt_model.specs.StateAfter.{thread_after, state_after}
 use Rattle.rt_model.specs.Stage.{IsPhaseOf}
 use Rattle.rt_model.specs.laws.Phases.{PhasesLaw}
 use Rattle.rt_model.specs.laws.Lawful.{IsLawful}
-use Rattle.rt_model.specs.laws.Owners.{owned_by}
-use Rattle.rt_model.specs.events.Wait.{wait_event, phase_after_wait}
 use Rattle.rt_model.proofs.NextEvents.{IsNext, by_own, by_acquire, by_wait, by_release}
-use Rattle.rt_model.proofs.events.Wait.{IsWait, is_wait, is_again}
+use Rattle.rt_model.proofs.events.Wait.{is_wait, is_again}
 use Rattle.rt_model.proofs.events.Acquire.{is_fast, is_mark, is_take}
 use Rattle.rt_model.proofs.events.Release.{is_free, is_give}
 use Rattle.rt_model.proofs.PartsAfter.{thread-made}
-use Rattle.rt_model.proofs.Waiters.{owner_runs, slow-unowned, phase_after_wait-Wait}
-use Rattle.rt_model.proofs.CellStepLemmas.{with_top-blocked}
-use Rattle.rt_model.proofs.Numbers.{other_number}
-use Rattle.rt_model.proofs.Within.{task_room}
+use Rattle.rt_model.proofs.Waiters.{owner_runs, phase_after_wait-Wait}
 
 abbrev Phased : ThreadPart → Type 0
 Phased thread = IsPhaseOf thread.phase (call_of thread)

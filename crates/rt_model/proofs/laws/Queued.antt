@@ -11,7 +11,7 @@ use Rattle.rt_model.specs.declared.event_kind.EventKind.{EventKind}
 use Rattle.rt_model.specs.declared.event_kind.EventKind.TheVariants as kinds
 use Rattle.rt_model.specs.declared.phase.Phase.{Phase}
 use Rattle.rt_model.specs.declared.phase.Phase.TheVariants as phases
-use Rattle.rt_model.specs.Parts.{OwnerPart, TaskPart, ThreadPart, call_of, effective_of, kind_of}
+use Rattle.rt_model.specs.Parts.{OwnerPart, ThreadPart, call_of, effective_of, kind_of}
 use Rattle.rt_model.specs.State.{State, shared, task_at, owner_part, task_part, thread_part}
 use Rattle.rt_model.specs.Choice.{called_lock}
 use Rattle.rt_model.specs.Effect.{Around, around}
@@ -26,8 +26,8 @@ use Rattle.rt_model.proofs.Calling.{IsIn}
 use Rattle.rt_model.proofs.CellStepLemmas.{leave_queue-blocked}
 use Rattle.rt_model.proofs.Lists.{if_some}
 use Rattle.rt_model.proofs.NextEvents.{IsNext, by_own, by_acquire, by_wait, by_release, task-IsNext}
-use Rattle.rt_model.proofs.events.Acquire.{IsMark, IsTake, is_fast, is_mark, is_take}
-use Rattle.rt_model.proofs.events.Wait.{IsWait, is_wait, is_again}
+use Rattle.rt_model.proofs.events.Acquire.{is_fast, is_mark, is_take}
+use Rattle.rt_model.proofs.events.Wait.{is_wait, is_again}
 use Rattle.rt_model.proofs.events.Release.{is_free, is_give}
 use Rattle.rt_model.proofs.Numbers.{at_each_task, other_number}
 use Rattle.rt_model.proofs.PartsAfter.{lock-kept, own-made, thread-own, thread-other}
@@ -121,8 +121,10 @@ queued_own s made t e lawful (by_wait l (is_wait is)) =
     let unowned : owned_by (owner_part s l).owner t ≡ false = slow-unowned s made t lawful l is.at in
     let at : Option (LockId × ℕ) = Some (l, effective_of (task_part s t)) in
     let x = wait_event t l (owner_part s l) (task_part s t) (task_at (shared s) (owner_part s l).owner) in
-    goes_on s made e lawful _ l phases.Wait at is.event is.at.task is.at.calling (phase_after_wait-Wait t (Some l) (owner_part s l).owner _ (owner_runs s made l lawful is.at.served)) refl
-    (own-made (λ v task. task.blocked ≡ at) s e _ t t is.event refl (task_room s t lawful.shape is.at.task) (blocked-others at x.kind x (thread_part s t) (around (shared s) (touched x.kind x)) (lock_left (shared s) (thread_part s t) x)) refl (λ others. absurd (other_number t.0 t.0 others refl))) refl
+    let others = blocked-others at x.kind x (thread_part s t) (around (shared s) (touched x.kind x)) (lock_left (shared s) (thread_part s t) x) in
+    let blocked : (task_part (state_after s e) t).blocked ≡ at =
+    own-made (λ v task. task.blocked ≡ at) s e x t t is.event refl (task_room s t lawful.shape is.at.task) others refl (λ ne. absurd (other_number t.0 t.0 ne refl)) in
+    goes_on s made e lawful x l phases.Wait at is.event is.at.task is.at.calling (phase_after_wait-Wait t (Some l) (owner_part s l).owner _ (owner_runs s made l lawful is.at.served)) refl blocked refl
     (lock-kept (λ lock. owned_by lock.owner t ≡ false) s e _ l is.event unowned (λ lock was. was)) tt
 queued_own s made t e lawful (by_wait l (is_again is)) =
     stays s (state_after s e) t (thread-own s e _ is.event is.at.task) (blocked-kept s e _ t is.event refl)

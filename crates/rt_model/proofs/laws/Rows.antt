@@ -10,7 +10,7 @@ use Rattle.rt_base.specs.declared.id.TaskId.{TaskId}
 use Rattle.rt_model.specs.declared.event.Event.{Event}
 use Rattle.rt_model.specs.declared.phase.Phase.{Phase}
 use Rattle.rt_model.specs.declared.row.Row.{Row}
-use Rattle.rt_model.specs.Parts.{OwnerPart, TaskPart, effective_of, kind_of}
+use Rattle.rt_model.specs.Parts.{OwnerPart, effective_of, kind_of}
 use Rattle.rt_model.specs.Rows.{is_of, queued_key, insert_row, without, has_rows}
 use Rattle.rt_model.specs.State.{State, owner_part, task_part, thread_part}
 use Rattle.rt_model.specs.steps.Lock.{queued, left_by}
@@ -20,7 +20,7 @@ use Rattle.rt_model.specs.laws.Rows.{IsAhead, IsQueue, RowsLaw, key_at}
 use Rattle.rt_model.specs.laws.Lawful.{IsLawful}
 use Rattle.rt_model.proofs.Blocked.{moves, rows-kept, blocked-kept}
 use Rattle.rt_model.proofs.CellStepLemmas.{leave_queue-blocked}
-use Rattle.rt_model.proofs.PartsAfter.{OthersKeep, lock-made, lock-kept, own-made}
+use Rattle.rt_model.proofs.PartsAfter.{lock-made, lock-kept, own-made}
 use Rattle.rt_model.proofs.Within.{task_room}
 use Rattle.rt_model.proofs.Calling.{IsIn}
 use Rattle.rt_model.proofs.NextEvents.{IsNext, by_own, by_acquire, by_wait, by_release}

@@ -1,6 +1,5 @@
 -- A next event keeps the states law.
-use Rattle.std.proofs.Common.{◌≡◌, ◌≢◌, ℕ, Bool, true, false, cond, refl, sym, ap, ◌∙◌, subst, Option, Some, None, All}
-use Rattle.std.specs.Prelude.{is_some}
+use Rattle.std.proofs.Common.{◌≡◌, ◌≢◌, Bool, false, cond, refl, sym, ap, ◌∙◌, Option, Some, None, All}
 use Rattle.std.proofs.lemmas.List.Elements.{All-nil}
 use Rattle.rt_base.specs.Kind.{spins}
 use Rattle.rt_base.specs.declared.call.Call.{Call}
@@ -14,15 +13,14 @@ use Rattle.rt_base.specs.declared.state.TaskState.TheVariants as states
 use Rattle.rt_model.specs.declared.event.Event.{Event}
 use Rattle.rt_model.specs.declared.event_kind.EventKind.{EventKind}
 use Rattle.rt_model.specs.declared.event_kind.EventKind.TheVariants as events
-use Rattle.rt_model.specs.Parts.{OwnerPart, TaskPart, ThreadPart, call_of, kind_of, kind_named}
-use Rattle.rt_model.specs.State.{State, shared, task_part, thread_part}
+use Rattle.rt_model.specs.Parts.{OwnerPart, TaskPart, ThreadPart, call_of, kind_named}
+use Rattle.rt_model.specs.State.{State, task_part, thread_part}
 use Rattle.rt_model.specs.steps.Task.{sleep_of, rest_of, saved_for}
-use Rattle.rt_model.specs.Effect.{Around, around}
-use Rattle.rt_model.specs.Rules.{touched, effect}
-use Rattle.rt_model.specs.StateAfter.{lock_left, state_after}
+use Rattle.rt_model.specs.Effect.{Around}
+use Rattle.rt_model.specs.Rules.{effect}
+use Rattle.rt_model.specs.StateAfter.{state_after}
 use Rattle.rt_model.specs.Stage.{IsStaged}
 use Rattle.rt_model.specs.laws.States.{StatesLaw}
-use Rattle.rt_model.specs.laws.Lawful.{IsLawful}
 use Rattle.rt_model.proofs.Lists.{All-read}
 use Rattle.rt_model.proofs.PartsAfter.{task-keeps}
 use Rattle.rt_model.proofs.TaskStates.{HasState, state-own, state-others}

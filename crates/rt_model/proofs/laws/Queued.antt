@@ -1,7 +1,6 @@
 -- A next event keeps the queued law.
 use Rattle.std.proofs.Common.{◌≡◌, ℕ, ◌<◌, false, length, refl, sym, ap, ◌∙◌, subst, Option, Some, None, IfSome}
 use Rattle.std.specs.Prelude.{nat_eq, option_and_then}
-use Rattle.rt_base.specs.Kind.{spins}
 use Rattle.rt_base.specs.declared.call.Call.{Call}
 use Rattle.rt_base.specs.declared.call.Call.TheVariants as calls
 use Rattle.rt_base.specs.declared.id.LockId.{LockId}
@@ -11,28 +10,25 @@ use Rattle.rt_model.specs.declared.event_kind.EventKind.{EventKind}
 use Rattle.rt_model.specs.declared.event_kind.EventKind.TheVariants as kinds
 use Rattle.rt_model.specs.declared.phase.Phase.{Phase}
 use Rattle.rt_model.specs.declared.phase.Phase.TheVariants as phases
-use Rattle.rt_model.specs.Parts.{OwnerPart, ThreadPart, call_of, effective_of, kind_of}
-use Rattle.rt_model.specs.State.{State, shared, task_at, owner_part, task_part, thread_part}
+use Rattle.rt_model.specs.Parts.{OwnerPart, ThreadPart, call_of}
+use Rattle.rt_model.specs.State.{State, shared, owner_part, task_part, thread_part}
 use Rattle.rt_model.specs.Choice.{called_lock}
 use Rattle.rt_model.specs.Effect.{Around, around}
-use Rattle.rt_model.specs.events.Wait.{wait_event}
 use Rattle.rt_model.specs.Rules.{touched, effect}
-use Rattle.rt_model.specs.StateAfter.{lock_left, thread_after, state_after}
+use Rattle.rt_model.specs.StateAfter.{thread_after, state_after}
 use Rattle.rt_model.specs.laws.Lawful.{IsLawful}
 use Rattle.rt_model.specs.laws.Owners.{owned_by}
 use Rattle.rt_model.specs.laws.Queued.{QueuedLaw, present_lock, awaited_in, asked_in}
-use Rattle.rt_model.proofs.Blocked.{moves, blocked-other, blocked-kept, blocked-others}
+use Rattle.rt_model.proofs.Blocked.{moves, blocked-other, blocked-kept, take-blocked, wait-blocked}
 use Rattle.rt_model.proofs.Calling.{IsIn}
-use Rattle.rt_model.proofs.CellStepLemmas.{leave_queue-blocked}
 use Rattle.rt_model.proofs.Lists.{if_some}
 use Rattle.rt_model.proofs.NextEvents.{IsNext, by_own, by_acquire, by_wait, by_release, task-IsNext}
 use Rattle.rt_model.proofs.events.Acquire.{is_fast, is_mark, is_take}
 use Rattle.rt_model.proofs.events.Wait.{is_wait, is_again}
 use Rattle.rt_model.proofs.events.Release.{is_free, is_give}
-use Rattle.rt_model.proofs.Numbers.{at_each_task, other_number}
-use Rattle.rt_model.proofs.PartsAfter.{lock-kept, own-made, thread-own, thread-other}
+use Rattle.rt_model.proofs.Numbers.{at_each_task}
+use Rattle.rt_model.proofs.PartsAfter.{lock-kept, thread-own, thread-other}
 use Rattle.rt_model.proofs.Waiters.{blocking, start-blocked, slow-unowned, owner_runs, phase_after_wait-Wait}
-use Rattle.rt_model.proofs.Within.{task_room}
 
 -- ---- the law at one task
 
@@ -108,10 +104,7 @@ queued_own s made t e lawful (by_own call answer is) = answers_at_once s made e 
 queued_own s made t e lawful (by_acquire l (is_fast is)) = answers_at_once s made e lawful _ (calls.Lock l) is.event is.at refl refl
 queued_own s made t e lawful (by_release l (is_free is)) = answers_at_once s made e lawful _ (calls.Unlock l) is.event is.at refl refl
 queued_own s made t e lawful (by_release l (is_give is)) = answers_at_once s made e lawful _ (calls.Unlock l) is.event is.at refl refl
-queued_own s made t e lawful (by_acquire l (is_take is)) =
-    answers s made e lawful _ is.event is.at.task refl
-    (own-made (λ v task. task.blocked ≡ None) s e _ t t is.event refl (task_room s t lawful.shape is.at.task) (record { owner = λ task was. was; other = λ task was. was; woken = λ task was. was })
-    (leave_queue-blocked (spins (kind_of (thread_part s t) l)) (task_part s t)) (λ others. absurd (other_number t.0 t.0 others refl)))
+queued_own s made t e lawful (by_acquire l (is_take is)) = answers s made e lawful _ is.event is.at.task refl (take-blocked s t e l lawful.shape is)
 queued_own s made t e lawful (by_acquire l (is_mark is)) =
     let unowned : owned_by (owner_part s l).owner t ≡ false = sym (lawful.owners l t) ∙ is.unheld in
     goes_on s made e lawful _ l phases.Slow None is.event is.at.task is.at.calling refl refl
@@ -119,13 +112,8 @@ queued_own s made t e lawful (by_acquire l (is_mark is)) =
     (lock-kept (λ lock. owned_by lock.owner t ≡ false) s e _ l is.event unowned (λ lock was. was))
 queued_own s made t e lawful (by_wait l (is_wait is)) =
     let unowned : owned_by (owner_part s l).owner t ≡ false = slow-unowned s made t lawful l is.at in
-    let at : Option (LockId × ℕ) = Some (l, effective_of (task_part s t)) in
-    let x = wait_event t l (owner_part s l) (task_part s t) (task_at (shared s) (owner_part s l).owner) in
-    let others = blocked-others at x.kind x (thread_part s t) (around (shared s) (touched x.kind x)) (lock_left (shared s) (thread_part s t) x) in
-    let blocked : (task_part (state_after s e) t).blocked ≡ at =
-    own-made (λ v task. task.blocked ≡ at) s e x t t is.event refl (task_room s t lawful.shape is.at.task) others refl (λ ne. absurd (other_number t.0 t.0 ne refl)) in
-    goes_on s made e lawful x l phases.Wait at is.event is.at.task is.at.calling (phase_after_wait-Wait t (Some l) (owner_part s l).owner _ (owner_runs s made l lawful is.at.served)) refl blocked refl
-    (lock-kept (λ lock. owned_by lock.owner t ≡ false) s e _ l is.event unowned (λ lock was. was)) tt
+    goes_on s made e lawful _ l phases.Wait _ is.event is.at.task is.at.calling (phase_after_wait-Wait t (Some l) (owner_part s l).owner _ (owner_runs s made l lawful is.at.served)) refl
+    (wait-blocked s t e l lawful.shape is) refl (lock-kept (λ lock. owned_by lock.owner t ≡ false) s e _ l is.event unowned (λ lock was. was)) tt
 queued_own s made t e lawful (by_wait l (is_again is)) =
     stays s (state_after s e) t (thread-own s e _ is.event is.at.task) (blocked-kept s e _ t is.event refl)
     (λ m unowned. lock-kept (λ lock. owned_by lock.owner t ≡ false) s e _ m is.event unowned (λ lock was. was)) lawful.queued

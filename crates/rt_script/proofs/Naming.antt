@@ -21,7 +21,7 @@ use Rattle.rt_base.specs.declared.id.LockId.{LockId}
 use Rattle.rt_base.specs.Script.{Script, TaskLine, LockLine, task_line, task_place, lock_place}
 use Rattle.rt_script.specs.declared.named.Named.{Named}
 use Rattle.rt_script.specs.declared.named.Named.TheVariants.{Task, Lock}
-use Rattle.rt_script.specs.Adding.{no_lines, with_cpus, with_task, with_locks, with_call, with_pick}
+use Rattle.rt_script.specs.Adding.{empty_script, with_cpus, with_task, with_locks, with_call, with_pick}
 use Rattle.rt_base.specs.Name.{is_name_byte, is_name}
 use Rattle.rt_script.specs.Names.{the_task, the_lock, named}
 
@@ -57,7 +57,7 @@ position_append p b xs y (z ∷ zs) e all =
 
 -- ---- names of a script
 
-pub named-nothing : (name : List ℕ) → named no_lines name ≡ None
+pub named-nothing : (name : List ℕ) → named empty_script name ≡ None
 unfolding named
 named-nothing name = refl
 

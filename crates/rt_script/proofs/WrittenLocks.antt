@@ -7,7 +7,7 @@ use Rattle.rt_base.specs.Text.{spaced}
 use Rattle.rt_base.specs.declared.kind.Kind.{Kind}
 use Rattle.rt_base.specs.declared.kind.Kind.TheVariants as kinds
 use Rattle.rt_base.specs.Script.{LockLine, is_first_cell, cells_of, locks_of, locks_of_lines}
-use Rattle.rt_script.specs.Canonical.{kind_word, lock_text}
+use Rattle.rt_script.specs.Canonical.{lock_kind_word, lock_text}
 
 -- the test for locks that have a line of their own
 abbrev pub has_line : LockLine → Bool
@@ -59,7 +59,7 @@ starts cpus name kinds.RwSem some = alone name kinds.RwSem
 
 -- a lock line of a name and a kind
 abbrev pub line_text : List ℕ × Kind → List ℕ
-line_text line = codes "lock" ++ spaced (line.0 ∷ kind_word line.1 ∷ [])
+line_text line = codes "lock" ++ spaced (line.0 ∷ lock_kind_word line.1 ∷ [])
 
 pub written_locks : (cpus : ℕ) (lines : List (List ℕ × Kind)) → 1 ≤ cpus → map lock_text (filter has_line (locks_of_lines cpus lines)) ≡ flat_map (λ line. line_text line ∷ []) lines
 written_locks cpus [] some = refl

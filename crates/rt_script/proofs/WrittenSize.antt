@@ -10,7 +10,7 @@ use Rattle.std.proofs.lemmas.List.Sums.{sum-map, sum_by-cons, length-filter, cou
 use Rattle.rt_base.specs.declared.call.Call.{Call}
 use Rattle.rt_base.specs.declared.id.TaskId.{TaskId}
 use Rattle.rt_base.specs.Script.{Script, TaskLine, LockLine, task_line, IsScript, IsTaskOf, IsLockWithin, IsCallOf}
-use Rattle.rt_script.specs.Canonical.{kind_word, call_words, cpus_text, task_text, lock_text, call_text, calls_text, pick_text, lined_locks, with_line_feed, canonical_lines, canonical}
+use Rattle.rt_script.specs.Canonical.{lock_kind_word, call_words, cpus_text, task_text, lock_text, call_text, calls_text, pick_text, lined_locks, with_line_feed, canonical_lines, canonical}
 use Rattle.rt_script.specs.Words.{is_printable}
 use Rattle.rt_script.proofs.WrittenWords.{left, right, both, is_word, line_of, printable_line, length_line}
 use Rattle.rt_script.proofs.WrittenPlain.{cpus_plain, task_plain, lock_plain, call_plain, pick_plain}
@@ -46,7 +46,7 @@ task_line_fits : (s : Script) → s.cpus ≤ 8 → (t : TaskLine) → IsTaskOf s
 task_line_fits s few t fits = of_words (codes "task") (t.name ∷ decimal t.own ∷ decimal t.cpu.0 ∷ []) (task_plain s t fits few) (omega arith)
 
 lock_line_fits : (cpus : ℕ) (l : LockLine) → IsLockWithin cpus l → is_line (lock_text l) ≡ true
-lock_line_fits cpus l fits = of_words (codes "lock") (l.name ∷ kind_word l.kind ∷ []) (lock_plain l.name l.kind fits.name) (omega arith)
+lock_line_fits cpus l fits = of_words (codes "lock") (l.name ∷ lock_kind_word l.kind ∷ []) (lock_plain l.name l.kind fits.name) (omega arith)
 
 call_line_fits : (s : Script) → IsScript s → (t : TaskLine) → IsTaskOf s t → (call : Call) → IsCallOf s call → is_line (call_text s t call) ≡ true
 call_line_fits s h t fits call is =

@@ -15,6 +15,7 @@ use Rattle.std.proofs.lemmas.List.Elements.{All-nil, All-cons}
 use Rattle.std.proofs.lemmas.Slice.Eq.{bytes_eq-Decides}
 use Rattle.rt_base.specs.Name.{is_name_byte, is_name}
 use Rattle.rt_base.specs.Text.{spaced}
+use Rattle.rt_script.specs.Lines.{are_words}
 use Rattle.rt_script.specs.Words.{words_of, number_upto, is_printable}
 
 -- ---- words
@@ -119,6 +120,6 @@ pub length_line : (first : List ℕ) (words : List (List ℕ)) → list_all is_w
 length_line first words e = omega (arith, length-append first (spaced words), leb-true (length first) 16 (word_short first (left _ _ e)), length_spaced words (right _ _ e))
 
 -- no word of such a line is empty
-pub filled : (words : List (List ℕ)) → list_all is_word words ≡ true → list_all (λ word. ltb 0 (length word)) words ≡ true
-filled [] e = refl
-filled (w ∷ ws) e = both _ _ (word_some w (left _ _ e)) (filled ws (right _ _ e))
+pub no_empty_word : (words : List (List ℕ)) → list_all is_word words ≡ true → are_words words ≡ true
+no_empty_word [] e = refl
+no_empty_word (w ∷ ws) e = both _ _ (word_some w (left _ _ e)) (no_empty_word ws (right _ _ e))

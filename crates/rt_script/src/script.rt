@@ -2,7 +2,7 @@ ghost use Rattle.std.specs.Prelude.{◌≡◌, ◌+◌, ◌<◌, ◌≤◌, ℕ,
 ghost use Rattle.rt_base.specs.Name.{is_name};
 ghost use Rattle.rt_base.specs.Script.{task_line, lock_line, all_calls, budget_of, IsScript, IsTaskOf, IsCallOf, IsCellOf, IsLockWithin};
 ghost use Rattle.rt_script.specs.Names.{named, AreNewLocks};
-ghost use Rattle.rt_script.specs.Adding.{no_lines, with_cpus, with_task, with_locks, with_call, with_pick};
+ghost use Rattle.rt_script.specs.Adding.{empty_script, with_cpus, with_task, with_locks, with_call, with_pick};
 
 use crate::limits::{MAX_CALLS, MAX_CPUS, MAX_LOCKS, MAX_PICKS, MAX_TASKS};
 use crate::lock::Lock;
@@ -27,7 +27,7 @@ impl Model for Script {
 
     ghost Value = { base.Script };
 
-    ghost use Rattle.rt_script.specs.Fields.{script_of_fields, AreFields};
+    ghost use Rattle.rt_script.specs.ScriptFields.{script_of_fields, AreFields};
 
     ghost view = { script_of_fields };
 
@@ -112,7 +112,7 @@ impl Script {
         requires { t.0 < length self.now.tasks }
         ensures { result ≡ (task_line self.now t).own }
     {
-        self.task(t).own()
+        self.task(t).own
     }
 
     /// The processor on which a task starts.
@@ -120,7 +120,7 @@ impl Script {
         requires { t.0 < length self.now.tasks }
         ensures { result ≡ (task_line self.now t).cpu }
     {
-        self.task(t).cpu()
+        self.task(t).cpu
     }
 
     /// The calls of a task, in order.
@@ -128,7 +128,7 @@ impl Script {
         requires { t.0 < length self.now.tasks }
         ensures { result.now ≡ (task_line self.now t).calls }
     {
-        self.task(t).calls()
+        self.task(t).calls.as_slice()
     }
 
     /// The name of a task.
@@ -137,7 +137,7 @@ impl Script {
         ensures name { result.now ≡ (task_line self.now t).name }
         ensures short { (1 ≤ length result.now) × (length result.now ≤ 16) }
     {
-        self.task(t).name()
+        self.task(t).name.as_str()
     }
 
     /// The kind of a lock.
@@ -145,7 +145,7 @@ impl Script {
         requires { l.0 < length self.now.locks }
         ensures { result ≡ (lock_line self.now l).kind }
     {
-        self.lock(l).kind()
+        self.lock(l).kind
     }
 
     /// The name of a lock. The cells of a local lock have one name.
@@ -154,7 +154,7 @@ impl Script {
         ensures name { result.now ≡ (lock_line self.now l).name }
         ensures short { (1 ≤ length result.now) × (length result.now ≤ 16) }
     {
-        self.lock(l).name()
+        self.lock(l).name.as_str()
     }
 
     /// The processor of a local lock's cell, and `None` for the other kinds.
@@ -163,7 +163,7 @@ impl Script {
         ensures cell { result ≡ (lock_line self.now l).cell }
         ensures local { IsCellOf self.now.cpus (lock_line self.now l).kind result }
     {
-        self.lock(l).cell()
+        self.lock(l).cell
     }
 
     /// How many events a replay in the stated order gets where no number is asked for.
@@ -176,7 +176,7 @@ impl Script {
 
     /// A script of one processor, without tasks and locks.
     pub(crate) fn new(alloc: Global) -> Script
-        ensures { result ≡ no_lines }
+        ensures { result ≡ empty_script }
     {
         Script {
             cpus: 1,
@@ -187,7 +187,7 @@ impl Script {
         }
     }
 
-    /// Adds a task behind the others. An `Err` changes nothing.
+    /// Adds a task after the others. An `Err` changes nothing.
     pub(crate) fn push_task(&mut self, task: Task) -> Result<(), AllocError>
         requires room { length self.old.tasks < MAX_TASKS }
         requires fits { IsTaskOf self.old task }
@@ -204,13 +204,13 @@ impl Script {
     pub(crate) fn set_cpus(&mut self, n: u8)
         requires positive { 1 ≤ n }
         requires few { n ≤ MAX_CPUS }
-        requires empty { self.old ≡ no_lines }
+        requires empty { self.old ≡ empty_script }
         ensures { self.new ≡ with_cpus self.old n }
     {
         self.cpus = n;
     }
 
-    /// Adds the locks of one line behind the others. An `Err` changes nothing.
+    /// Adds the locks of one line after the others. An `Err` changes nothing.
     pub(crate) fn push_locks(&mut self, mut locks: Vec<Lock>) -> Result<(), AllocError>
         requires room { length self.old.locks + length locks.items ≤ MAX_LOCKS }
         requires added { (name : List ℕ) × AreNewLocks self.old name locks.items }
@@ -221,7 +221,7 @@ impl Script {
         Ok(())
     }
 
-    /// Adds a call behind the others of a task. An `Err` changes nothing.
+    /// Adds a call after the others of a task. An `Err` changes nothing.
     pub(crate) fn push_call(&mut self, t: TaskId, call: Call) -> Result<(), AllocError>
         requires task { t.0 < length self.old.tasks }
         requires room { all_calls self.old < MAX_CALLS }
@@ -234,7 +234,7 @@ impl Script {
         Ok(())
     }
 
-    /// Adds a pick behind the others. An `Err` changes nothing.
+    /// Adds a pick after the others. An `Err` changes nothing.
     pub(crate) fn push_pick(&mut self, t: TaskId) -> Result<(), AllocError>
         requires task { t.0 < length self.old.tasks }
         requires room { length self.old.picks < MAX_PICKS }

@@ -2,7 +2,7 @@
 ghost use Rattle.std.specs.Prelude.{◌≡◌, ◌<◌, [], ◌∷◌, ◌++◌, length, cond, Ok, codes, decimal, flat_map, IfOk, OnOk};
 ghost use Rattle.rt_base.specs.Script.{TaskLine, LockLine, task_line, lock_line, is_first_cell, IsScript};
 ghost use Rattle.rt_base.specs.Text.{spaced, state_word};
-ghost use Rattle.rt_script.specs.Canonical.{kind_word, on_lock, on_task, call_words, cpus_text, task_text, lock_text, call_text, pick_text, lined_locks, calls_text, with_line_feed, canonical};
+ghost use Rattle.rt_script.specs.Canonical.{lock_kind_word, on_lock, on_task, call_words, cpus_text, task_text, lock_text, call_text, pick_text, lined_locks, calls_text, with_line_feed, canonical};
 ghost use Rattle.rt_script.specs.Grammar.{script_of};
 
 use crate::lock::Lock;
@@ -14,7 +14,7 @@ use std::alloc::{AllocError, Global};
 
 /// The word for a kind of lock.
 fn kind_text(kind: Kind) -> &'static str
-    ensures { result.now ≡ kind_word kind }
+    ensures { result.now ≡ lock_kind_word kind }
 {
     match kind {
         Kind::Mutex => "mutex",
@@ -25,7 +25,7 @@ fn kind_text(kind: Kind) -> &'static str
     }
 }
 
-/// Appends a word behind a space.
+/// Appends a word after a space.
 fn push_word(word: &str, out: &mut Vec<u8>) -> Result<(), AllocError>
     ensures { OnOk result (out.new.items ≡ out.old.items ++ 32 ∷ word.now) }
 {
@@ -34,7 +34,7 @@ fn push_word(word: &str, out: &mut Vec<u8>) -> Result<(), AllocError>
     Ok(())
 }
 
-/// Appends the decimal digits of a number behind a space.
+/// Appends the decimal digits of a number after a space.
 fn push_number(n: u8, out: &mut Vec<u8>) -> Result<(), AllocError>
     ensures { OnOk result (out.new.items ≡ out.old.items ++ 32 ∷ decimal n) }
 {
@@ -58,9 +58,9 @@ fn push_task_line(task: &Task, out: &mut Vec<u8>) -> Result<(), AllocError>
     ensures { OnOk result (out.new.items ≡ out.old.items ++ with_line_feed (task_text task.now)) }
 {
     out.extend_from_slice(b"task")?;
-    push_word(task.name(), out)?;
-    push_number(task.own().get(), out)?;
-    push_number(task.cpu().0, out)?;
+    push_word(task.name.as_str(), out)?;
+    push_number(task.own.get(), out)?;
+    push_number(task.cpu.0, out)?;
     out.push(b'\n')?;
     Ok(())
 }
@@ -70,17 +70,17 @@ fn push_lock_line(lock: &Lock, out: &mut Vec<u8>) -> Result<(), AllocError>
     ensures { OnOk result (out.new.items ≡ out.old.items ++ with_line_feed (lock_text lock.now)) }
 {
     out.extend_from_slice(b"lock")?;
-    push_word(lock.name(), out)?;
-    push_word(kind_text(lock.kind()), out)?;
+    push_word(lock.name.as_str(), out)?;
+    push_word(kind_text(lock.kind), out)?;
     out.push(b'\n')?;
     Ok(())
 }
 
-/// Whether a lock has a line of its own, as the cells of a local lock behind the first don't.
+/// Whether a lock has a line of its own, as the cells of a local lock after the first don't.
 fn has_line(lock: &Lock) -> bool
     ensures { result ≡ is_first_cell lock.now.cell }
 {
-    match lock.cell() {
+    match lock.cell {
         Some(cpu) => cpu.0 == 0,
         None => true,
     }
@@ -215,7 +215,7 @@ impl Script {
         ensures { OnOk result (out.new.items ≡ out.old.items ++ with_line_feed (call_text self.now task.now call.now)) }
     {
         out.extend_from_slice(b"call")?;
-        push_word(task.name(), out)?;
+        push_word(task.name.as_str(), out)?;
         self.push_call_words(call, out)?;
         out.push(b'\n')?;
         Ok(())
@@ -235,7 +235,7 @@ impl Script {
     fn push_calls_of(&self, task: &Task, out: &mut Vec<u8>) -> Result<(), AllocError>
         ensures { OnOk result (out.new.items ≡ out.old.items ++ flat_map (λ call. with_line_feed (call_text self.now task.now call)) task.now.calls) }
     {
-        for call in task.calls() {
+        for call in &task.calls {
             self.push_call_line(task, call, out)?;
         }
         Ok(())
@@ -277,7 +277,7 @@ impl Script {
     }
 
     /// The canonical text of the script: the header, the number of processors, the tasks, the locks with a
-    /// local lock once, the calls of one task behind those of another, the picks, and `go`. Each line ends
+    /// local lock once, the calls of one task after those of another, the picks, and `go`. Each line ends
     /// with a line feed, and there are no comments and no empty lines. By the rules of the script text
     /// it is this script, and `read_script` takes it. An error is a want of memory.
     pub fn write(&self, alloc: Global) -> Result<Vec<u8>, NoMemory>

@@ -1,4 +1,4 @@
-use Rattle.rt_script.specs.Fields.{script_of_fields}
+use Rattle.rt_script.specs.ScriptFields.{script_of_fields}
 use Rattle.rt_script.proofs.Growth.{lock_within}
 use Rattle.rt_script.proofs.script.Script.lock.Goals as goal
 

@@ -1,7 +1,7 @@
 use Rattle.std.proofs.Common.{◌≡◌, ◌∷◌, ◌++◌, [], ◌+◌, length, refl, sym, ◌∙◌, ap, arith}
 use Rattle.std.proofs.lemmas.Option.{slice_get_read}
 use Rattle.rt_base.specs.Script.{Script, task_line}
-use Rattle.rt_script.specs.Fields.{script_of_fields}
+use Rattle.rt_script.specs.ScriptFields.{script_of_fields}
 use Rattle.rt_script.proofs.Growth.{IsScript-with_call}
 use Rattle.rt_script.proofs.script.Script.push_call.Goals as goal
 

@@ -1,4 +1,4 @@
-use Rattle.rt_script.specs.Fields.{script_of_fields}
+use Rattle.rt_script.specs.ScriptFields.{script_of_fields}
 use Rattle.rt_script.proofs.Growth.{task_named}
 use Rattle.rt_script.proofs.script.Script.task.Goals as goal
 

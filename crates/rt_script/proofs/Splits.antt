@@ -3,8 +3,7 @@ use Rattle.std.proofs.Common.{◌≡◌, ℕ, suc, ◌+◌, ◌-◌, ◌<◌, �
 use Rattle.std.specs.Prelude.{position, ◌==◌}
 use Rattle.std.specs.List.{slice_split, onto_first, position_or_len}
 use denote.Ref.{Bor}
-use Rattle.rt_script.specs.Words.{lines_of}
-use Rattle.rt_script.specs.Fields.{lines_left}
+use Rattle.rt_script.specs.ScriptFields.{pieces_left}
 use Rattle.rt_script.specs.Grammar.{is_end}
 use Rattle.std.proofs.lemmas.Bool.{ltb-true, ltb-false, ne_eqb}
 use Rattle.std.proofs.lemmas.Option.{cond_some}
@@ -47,14 +46,14 @@ not_end : (b : Bool) (x : ℕ) (pieces : List (List ℕ)) (first : List ℕ) (ot
 not_end true x pieces first others e = rw e refl
 not_end false x pieces first others e = rw e refl
 
-pub is_end-lines_of : (bytes : List ℕ) → is_end (lines_of bytes) ≡ (length bytes == 0)
-is_end-lines_of [] = refl
-is_end-lines_of (b ∷ bytes) =
-    let next = some_piece (λ c. c == 10) bytes in
-    not_end (b == 10) b (lines_of bytes) next.0 next.1 next.2 ∙ sym (ne_eqb (suc (length bytes)) 0 (λ e. absurd (omega arith)))
+is_end-split : (p : ℕ → Bool) (bytes : List ℕ) → is_end (slice_split p bytes) ≡ (length bytes == 0)
+is_end-split p [] = refl
+is_end-split p (b ∷ bytes) =
+    let next = some_piece p bytes in
+    not_end (p b) b (slice_split p bytes) next.0 next.1 next.2 ∙ sym (ne_eqb (suc (length bytes)) 0 (λ e. absurd (omega arith)))
 
-pub is_end-lines_left : (left : Option (Bor (List ℕ))) (rest : Bor (List ℕ)) → left ≡ Some rest → is_end (lines_left left) ≡ (length rest.now == 0)
-is_end-lines_left left rest e = rw e (is_end-lines_of rest.now)
+pub is_end-pieces_left : (separator : ℕ) (left : Option (Bor (List ℕ))) (rest : Bor (List ℕ)) → left ≡ Some rest → is_end (pieces_left separator left) ≡ (length rest.now == 0)
+is_end-pieces_left separator left rest e = rw e (is_end-split (λ b. b == separator) rest.now)
 
 -- ---- as many pieces as separators, and one more
 

@@ -1,6 +1,6 @@
 use Rattle.std.proofs.Common.{◌==◌, sym}
-use Rattle.rt_script.proofs.Pieces.{split_at_none, split_parts}
-use Rattle.rt_script.proofs.words.split_at_byte.Goals as goal
+use Rattle.rt_script.proofs.Splits.{split_at_none, split_parts}
+use Rattle.rt_script.proofs.pieces.split_at_byte.Goals as goal
 
 pub returns-in_err-end : goal.returns-in_err-end
 returns-in_err-end c = rw c.from_residual.ensures (record { parts = split_at_none (λ b. b == c.args.byte) c.args.text.now (sym c.in_err-end.ensures); shorter = tt })

@@ -8,7 +8,7 @@ use Rattle.rt_base.specs.declared.kind.Kind.TheVariants as kinds
 use Rattle.rt_base.specs.Script.{Script, LockLine, lock_line, is_first_cell, IsLockOf, IsMutex, IsSpin, HasReaders, IsReaderLock, IsLocal, IsCallOf, IsScript}
 use Rattle.rt_script.specs.declared.verb.LockVerb.{LockVerb}
 use Rattle.rt_script.specs.declared.verb.LockVerb.TheVariants as on
-use Rattle.rt_script.specs.Grammar.{call_of, reading_call}
+use Rattle.rt_script.specs.Calls.{call_on, reading_call}
 use Rattle.rt_script.proofs.Cells.{first_cell}
 use Rattle.rt_script.proofs.Growth.{lock_within}
 
@@ -32,7 +32,7 @@ read_made s l on.Unwrite there = there
 read_made s l on.Downgrade there = there
 read_made s l _ there = tt
 
-made : (s : Script) (l : LockId) (kind : Kind) (verb : LockVerb) → l.0 < length s.locks → (lock_line s l).kind ≡ kind → (kind ≡ kinds.Local → IsLocal (lock_line s l)) → IfSome (call_of kind verb l) (IsCallOf s)
+made : (s : Script) (l : LockId) (kind : Kind) (verb : LockVerb) → l.0 < length s.locks → (lock_line s l).kind ≡ kind → (kind ≡ kinds.Local → IsLocal (lock_line s l)) → IfSome (call_on kind verb l) (IsCallOf s)
 made s l kinds.Mutex on.Lock lt k local = lock_fits s.locks l.0 IsMutex lt k
 made s l kinds.Mutex on.LockInt lt k local = lock_fits s.locks l.0 IsMutex lt k
 made s l kinds.Mutex on.TryLock lt k local = lock_fits s.locks l.0 IsMutex lt k
@@ -46,7 +46,7 @@ made s l kinds.Local on.Local lt k local = lock_fits s.locks l.0 IsLocal lt (loc
 made s l kinds.Local on.Unlocal lt k local = lock_fits s.locks l.0 IsLocal lt (local refl)
 made s l _ verb lt k local = tt
 
-pub IsCallOf-call_of : (s : Script) (l : LockId) (verb : LockVerb) (call : Call) → IsScript s → l.0 < length s.locks → is_first_cell (lock_line s l).cell ≡ true → call_of (lock_line s l).kind verb l ≡ Some call → IsCallOf s call
-IsCallOf-call_of s l verb call h lt first e =
+pub IsCallOf-call_on : (s : Script) (l : LockId) (verb : LockVerb) (call : Call) → IsScript s → l.0 < length s.locks → is_first_cell (lock_line s l).cell ≡ true → call_on (lock_line s l).kind verb l ≡ Some call → IsCallOf s call
+IsCallOf-call_on s l verb call h lt first e =
     let local : (lock_line s l).kind ≡ kinds.Local → IsLocal (lock_line s l) = first_cell s.cpus (lock_line s l) (lock_within s l h lt) first in
     subst (λ (o : Option Call). IfSome o (IsCallOf s)) e (made s l (lock_line s l).kind verb lt refl local)

@@ -1,5 +1,4 @@
 ghost use Rattle.std.specs.Prelude.{◌≡◌, IfOk};
-ghost use Rattle.std.specs.String.{string_bytes};
 ghost use Rattle.rt_base.specs.Script.{cells_of, locks_of};
 
 use rt_base::{Cpu, Kind};
@@ -23,14 +22,6 @@ impl Model for Lock {
     ghost view = { λ l. record { name = string_bytes l.name; kind = l.kind; cell = l.cell } };
 }
 
-impl Lock {
-    pub(crate) fn new(name: String, kind: Kind, cell: Option<Cpu>) -> Lock
-        ensures { result ≡ record { name = string_bytes name; kind = kind; cell = cell } }
-    {
-        Lock { name, kind, cell }
-    }
-}
-
 /// The locks that a line makes.
 pub(crate) fn locks_of(
     alloc: Global,
@@ -45,7 +36,11 @@ pub(crate) fn locks_of(
     }
     let mut locks = Vec::with_capacity(alloc, 1)?;
     let name = String::from_str(alloc, name)?;
-    locks.push(Lock::new(name, kind, None))?;
+    locks.push(Lock {
+        name,
+        kind,
+        cell: None,
+    })?;
     Ok(locks)
 }
 
@@ -56,7 +51,11 @@ fn cells_of(alloc: Global, name: &str, cpus: u8) -> Result<Vec<Lock>, AllocError
     let mut cells = Vec::with_capacity(alloc, cpus as usize)?;
     for k in 0..cpus {
         let name = String::from_str(alloc, name)?;
-        cells.push(Lock::new(name, Kind::Local, Some(Cpu(k))))?;
+        cells.push(Lock {
+            name,
+            kind: Kind::Local,
+            cell: Some(Cpu(k)),
+        })?;
     }
     Ok(cells)
 }

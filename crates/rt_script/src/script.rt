@@ -4,7 +4,7 @@ ghost use Rattle.rt_base.specs.Script.{task_line, lock_line, all_calls, budget_o
 ghost use Rattle.rt_script.specs.Names.{named, AreNewLocks};
 ghost use Rattle.rt_script.specs.Adding.{empty_script, with_cpus, with_task, with_locks, with_call, with_pick};
 
-use crate::limits::{MAX_CALLS, MAX_CPUS, MAX_LOCKS, MAX_PICKS, MAX_TASKS};
+use crate::limits::{BUDGET_FACTOR, MAX_CALLS, MAX_CPUS, MAX_LOCKS, MAX_PICKS, MAX_TASKS};
 use crate::lock::Lock;
 use crate::task::Task;
 use rt_base::{Call, Cpu, Kind, LockId, Prio, TaskId};
@@ -171,7 +171,7 @@ impl Script {
         ensures { result ≡ budget_of self.now }
     {
         let tasks = self.tasks.len() as u64;
-        16 * (tasks + 2) * (tasks + self.all_calls as u64 + 2)
+        BUDGET_FACTOR * (tasks + 2) * (tasks + self.all_calls as u64 + 2)
     }
 
     /// A script of one processor, without tasks and locks.

@@ -2,12 +2,10 @@
 #![tactic(auto)]
 
 mod call_form;
-mod calling;
 mod draft;
 mod fault;
 mod keyword;
 mod limits;
-mod line;
 mod line_error;
 mod lock;
 mod name;

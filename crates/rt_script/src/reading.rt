@@ -6,8 +6,8 @@ ghost use Rattle.rt_script.specs.Limits.{text_limit};
 ghost use Rattle.rt_script.specs.Results.{Reads, IsInLine, IsFaultOf};
 
 use crate::draft::Draft;
+use crate::draft::line::are_printable;
 use crate::fault::{ScriptFault, Why};
-use crate::line::are_printable;
 use crate::line_error::LineError;
 use crate::pieces::Pieces;
 use crate::script::Script;

@@ -4,8 +4,8 @@ ghost use Rattle.rt_base.specs.Script.{IsCallOf};
 ghost use Rattle.rt_script.specs.Calls.{reading_call, call_on, lock_call, call_in, form_map, SetsState};
 ghost use Rattle.rt_script.specs.Results.{Gives};
 
+use super::Draft;
 use crate::call_form::CallForm;
-use crate::draft::Draft;
 use crate::fault::Why;
 use crate::line_error::LineError;
 use crate::spelling::{cpu_spelled, prio_spelled};
@@ -14,7 +14,7 @@ use rt_base::{Call, Kind, LockId};
 
 impl Draft {
     /// The call that a form makes, its words from left to right.
-    pub(crate) fn call_in(&self, form: CallForm<&[u8]>) -> Result<Call, LineError>
+    pub(super) fn call_in(&self, form: CallForm<&[u8]>) -> Result<Call, LineError>
         requires { SetsState form }
         ensures call { Gives (λ call. call) result (call_in self.now.script (form_map (λ word. word.now) form.entry)) }
         ensures fits { IfOk result (IsCallOf self.now.script) }

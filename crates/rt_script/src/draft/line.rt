@@ -5,16 +5,18 @@ ghost use Rattle.rt_script.specs.Lines.{after_cpus_line, after_task_line, after_
 ghost use Rattle.rt_script.specs.Results.{Gives};
 ghost use Rattle.rt_script.specs.Words.{is_printable, is_passed_over};
 
+use super::Draft;
 use crate::call_form::call_form;
-use crate::draft::Draft;
 use crate::fault::Why;
 use crate::keyword::Keyword;
 use crate::limits::{MAX_CALLS, MAX_LOCKS, MAX_PICKS, MAX_TASKS};
 use crate::line_error::LineError;
 use crate::lock::locks_of;
+use crate::named::Named;
 use crate::pieces::Pieces;
 use crate::spelling::{cpu_spelled, cpus_spelled, kind_spelled, prio_spelled};
 use crate::task::Task;
+use rt_base::{LockId, TaskId};
 use std::alloc::Global;
 
 impl Draft {
@@ -57,11 +59,12 @@ impl Draft {
     fn cpus(&mut self, operands: Pieces) -> Result<(), LineError>
         ensures { Gives (λ _. self.new) result (begun_with (after_cpus_line self.old operands.entry)) }
     {
-        if self.begun() {
+        if self.begun {
             return Err(LineError::Fault(Why::BadLine));
         }
         let n = cpus_spelled(operands.one()?)?;
-        self.set_cpus(n);
+        self.begun = true;
+        self.script.set_cpus(n);
         Ok(())
     }
 
@@ -77,7 +80,13 @@ impl Draft {
         if self.script().tasks() as usize >= MAX_TASKS {
             return Err(LineError::Fault(Why::TooMany));
         }
-        self.push_task(Task::new(alloc, name, own, cpu))
+        self.begun = true;
+        let id = TaskId(self.script.tasks());
+        let key = name.clone()?;
+        self.names.reserve(1)?;
+        self.script.push_task(Task::new(alloc, name, own, cpu))?;
+        self.names.insert(key, Named::Task(id))?;
+        Ok(())
     }
 
     /// Reads the operands of a lock line.
@@ -94,7 +103,12 @@ impl Draft {
         if self.script().locks() as usize + locks.len() > MAX_LOCKS {
             return Err(LineError::Fault(Why::TooMany));
         }
-        self.push_locks(name, locks)
+        self.begun = true;
+        let id = LockId(self.script.locks());
+        self.names.reserve(1)?;
+        self.script.push_locks(locks)?;
+        self.names.insert(name, Named::Lock(id))?;
+        Ok(())
     }
 
     /// Reads the operands of a call line.
@@ -113,7 +127,9 @@ impl Draft {
         if self.script().all_calls() >= MAX_CALLS {
             return Err(LineError::Fault(Why::TooMany));
         }
-        self.push_call(t, call)
+        self.begun = true;
+        self.script.push_call(t, call)?;
+        Ok(())
     }
 
     /// Reads the operands of a pick line.
@@ -126,7 +142,9 @@ impl Draft {
         if self.script().picks().len() >= MAX_PICKS {
             return Err(LineError::Fault(Why::TooMany));
         }
-        self.push_pick(t)
+        self.begun = true;
+        self.script.push_pick(t)?;
+        Ok(())
     }
 }
 

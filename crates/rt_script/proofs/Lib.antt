@@ -4,7 +4,9 @@ pub mod Growth
 pub mod Naming
 pub mod Numbers
 pub mod OwnNames
+pub mod ScriptParts
 pub mod Splits
+pub mod Tests
 pub mod Whole
 pub mod Written
 pub mod WrittenCalls

@@ -14,7 +14,7 @@ use Rattle.rt_script.proofs.WrittenLocks.{has_line, line_text, written_locks}
 use Rattle.rt_script.proofs.WrittenSize.{lines_fit, printable_lines}
 use Rattle.rt_script.proofs.WrittenStages.{begun, empty, of_tasks, of_locks, of_calls, of_picks, reads_cpus, reads_tasks, reads_locks, reads_calls, reads_picks}
 
--- these lines, with `go` behind them, end as that script
+-- these lines, with `go` after them, end as that script
 Ends : SoFar → List (List ℕ) → Script → Type 0
 Ends a lines s = (n : ℕ) → after_lines n a (lines ++ [] ∷ []) ≡ Ok s
 

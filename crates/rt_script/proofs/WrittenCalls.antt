@@ -1,9 +1,8 @@
 -- The words of a call are read as that call.
-use Rattle.std.proofs.Common.{◌≡◌, ◌≢◌, ℕ, zero, suc, ◌<◌, ◌≤◌, true, List, [], ◌∷◌, ◌++◌, length, map, get_or, ltb, leb, Option, Some, None, Ok, refl, sym, ◌∙◌, arith}
+use Rattle.std.proofs.Common.{◌≡◌, ◌≢◌, ℕ, ◌<◌, ◌≤◌, true, List, [], ◌∷◌, ◌++◌, length, map, ltb, leb, Option, Some, Ok, refl, sym, ◌∙◌, arith}
 use Rattle.std.specs.Prelude.{codes, decimal}
 use Rattle.std.specs.List.{list_all}
 use Rattle.std.proofs.lemmas.Bool.{lt-ltb}
-use Rattle.std.proofs.lemmas.Option.{unwrap_or-slice_get}
 use Rattle.rt_base.specs.Text.{state_word}
 use Rattle.rt_base.specs.declared.call.Call.{Call}
 use Rattle.rt_base.specs.declared.call.Call.TheVariants as calls
@@ -14,7 +13,7 @@ use Rattle.rt_base.specs.declared.kind.Kind.{Kind}
 use Rattle.rt_base.specs.declared.kind.Kind.TheVariants as kinds
 use Rattle.rt_base.specs.declared.state.TaskState.{TaskState}
 use Rattle.rt_base.specs.declared.state.TaskState.TheVariants as states
-use Rattle.rt_base.specs.Script.{Script, TaskLine, LockLine, task_line, lock_line, is_first_cell, IsScript, IsTaskOf, IsLockWithin, IsCellOf, IsLockOf, IsMutex, IsSpin, IsReaderLock, IsLocal, HasReaders, IsCallOf}
+use Rattle.rt_base.specs.Script.{Script, task_line, lock_line, is_first_cell, IsScript, IsCellOf, IsLockOf, IsMutex, IsSpin, IsReaderLock, IsLocal, HasReaders, IsCallOf}
 use Rattle.rt_script.specs.declared.call_form.CallForm.{CallForm}
 use Rattle.rt_script.specs.declared.call_form.CallForm.TheVariants as forms
 use Rattle.rt_script.specs.declared.verb.Verb.TheVariants as verbs
@@ -25,7 +24,9 @@ use Rattle.rt_script.specs.Calls.{call_form, reading_call, call_on, call_in}
 use Rattle.rt_script.specs.Spelling.{cpu_spelled, verb_spelled}
 use Rattle.rt_script.specs.Names.{task_named, lock_named}
 use Rattle.rt_script.specs.Words.{number_upto}
-use Rattle.rt_script.proofs.WrittenWords.{is_word, both, word_of_name, word_of_number, number_read}
+use Rattle.rt_script.proofs.ScriptParts.{task_fits, lock_fits, IsLockOf-to}
+use Rattle.rt_script.proofs.Tests.{both}
+use Rattle.rt_script.proofs.WrittenWords.{is_word, word_of_name, word_of_number, number_read}
 use Rattle.rt_script.proofs.WrittenNames.{name_of, task_is_known, lock_is_known}
 
 -- ---- what is known of a script that is written
@@ -35,29 +36,6 @@ pub record HasAll (p s : Script) : Type 0 where
   pub cpus : p.cpus ≡ s.cpus
   pub names : map name_of p.tasks ≡ map name_of s.tasks
   pub locks : p.locks ≡ s.locks
-
-pub task_fits : (s : Script) (t : TaskId) → IsScript s → t.0 < length s.tasks → IsTaskOf s (task_line s t)
-task_fits s t h within =
-    let d : TaskLine = record { name = []; own = 0; cpu = record { 0 = 0 }; calls = [] } in
-    let is : task_line s t ≡ get_or s.tasks t.0 d = unwrap_or-slice_get s.tasks t.0 d in
-    rw is (h.each_task t.0 d within)
-
-lock_fits : (s : Script) (l : LockId) → IsScript s → l.0 < length s.locks → IsLockWithin s.cpus (lock_line s l)
-lock_fits s l h within =
-    let d : LockLine = record { name = []; kind = kinds.Mutex; cell = None } in
-    let is : lock_line s l ≡ get_or s.locks l.0 d = unwrap_or-slice_get s.locks l.0 d in
-    rw is (h.each_lock l.0 d within)
-
--- a script that has only locks
-abbrev only : List LockLine → Script
-only locks = record { cpus = 1; tasks = []; locks = locks; picks = [] }
-
-found : (xs : List LockLine) (i : ℕ) (fits : LockLine → Type 0) → IsLockOf (only xs) fits (record { 0 = i }) → (i < length xs) × fits (lock_line (only xs) (record { 0 = i }))
-found [] i fits h = absurd h
-found (x ∷ xs) zero fits h = (omega arith, h)
-found (x ∷ xs) (suc i) fits h =
-    let k = found xs i fits h in
-    (omega (arith, k.0), k.1)
 
 -- ---- what the words of a call say
 
@@ -99,7 +77,7 @@ not_local cpus kinds.Local cell h other = absurd (other refl)
 kind_says : (p s : Script) → IsScript s → HasAll p s → (l : LockId) (word : List ℕ) (verb : LockVerb) (call : Call) (kind : Kind) → kind ≢ kinds.Local → IsVerb word verb → call_on kind verb l ≡ Some call
     → IsLockOf s (λ line. line.kind ≡ kind) l → Says p (on_lock s word l) call
 kind_says p s h has l word verb call kind other v fits there =
-    let at = found s.locks l.0 (λ line. line.kind ≡ kind) there in
+    let at = IsLockOf-to s.locks l.0 (λ line. line.kind ≡ kind) there in
     let is : (lock_line s l).kind ≡ kind = at.1 in
     let first : is_first_cell (lock_line s l).cell ≡ true = not_local s.cpus (lock_line s l).kind (lock_line s l).cell (lock_fits s l h at.0).cell (λ e. other (sym is ∙ e)) in
     lock_says p s h has l word verb call v at.0 first (rw is fits)
@@ -119,13 +97,13 @@ with_readers kinds.Local verb l call h e = absurd h
 
 reader_says : (p s : Script) → IsScript s → HasAll p s → (l : LockId) (word : List ℕ) (verb : LockVerb) (call : Call) → IsVerb word verb → reading_call verb l ≡ Some call → IsLockOf s IsReaderLock l → Says p (on_lock s word l) call
 reader_says p s h has l word verb call v fits there =
-    let at = found s.locks l.0 IsReaderLock there in
+    let at = IsLockOf-to s.locks l.0 IsReaderLock there in
     let kind = with_readers (lock_line s l).kind verb l call at.1 fits in
     lock_says p s h has l word verb call v at.0 (not_local s.cpus (lock_line s l).kind (lock_line s l).cell (lock_fits s l h at.0).cell kind.0) kind.1
 
 local_says : (p s : Script) → IsScript s → HasAll p s → (l : LockId) (word : List ℕ) (verb : LockVerb) (call : Call) → IsVerb word verb → call_on kinds.Local verb l ≡ Some call → IsLockOf s IsLocal l → Says p (on_lock s word l) call
 local_says p s h has l word verb call v fits there =
-    let at = found s.locks l.0 IsLocal there in
+    let at = IsLockOf-to s.locks l.0 IsLocal there in
     lock_says p s h has l word verb call v at.0 (rw at.1.1 refl) (rw at.1.0 fits)
 
 -- ---- other calls

@@ -1,5 +1,5 @@
 -- Lines that are written are read one by one.
-use Rattle.std.proofs.Common.{◌≡◌, ℕ, ◌+◌, Bool, true, false, List, [], ◌∷◌, ◌++◌, flat_map, All, Ok, refl, sym, ap, subst, ◌∙◌, arith, append-nil, append_assoc}
+use Rattle.std.proofs.Common.{◌≡◌, ℕ, ◌+◌, true, false, List, [], ◌∷◌, ◌++◌, flat_map, All, Ok, refl, sym, ap, subst, ◌∙◌, arith, append-nil, append_assoc}
 use Rattle.std.specs.Prelude.{◌==◌, codes, bytes_eq}
 use Rattle.std.specs.List.{list_all}
 use Rattle.std.proofs.lemmas.Bool.Decides.{nat_tests}
@@ -10,7 +10,8 @@ use Rattle.rt_script.specs.Canonical.{with_line_feed}
 use Rattle.rt_script.specs.Grammar.{after_lines, is_end}
 use Rattle.rt_script.specs.Lines.{SoFar, are_words, after_words, after_line}
 use Rattle.rt_script.specs.Words.{text_lines, is_printable, is_passed_over}
-use Rattle.rt_script.proofs.WrittenWords.{left, right, both, is_word, line_of, words_of-line, printable_line, no_empty_word}
+use Rattle.rt_script.proofs.Tests.{left, right}
+use Rattle.rt_script.proofs.WrittenWords.{is_word, line_of, words_of-line, printable_line, no_empty_word}
 
 -- ---- the lines of a text
 

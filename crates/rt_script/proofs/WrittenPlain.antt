@@ -7,7 +7,8 @@ use Rattle.rt_base.specs.declared.kind.Kind.{Kind}
 use Rattle.rt_base.specs.declared.kind.Kind.TheVariants as kinds
 use Rattle.rt_base.specs.Script.{Script, TaskLine, IsTaskOf}
 use Rattle.rt_script.specs.Canonical.{lock_kind_word}
-use Rattle.rt_script.proofs.WrittenWords.{both, is_word, word_of_name, word_of_number}
+use Rattle.rt_script.proofs.Tests.{both}
+use Rattle.rt_script.proofs.WrittenWords.{is_word, word_of_name, word_of_number}
 
 pub cpus_plain : (cpus : ℕ) → cpus ≤ 8 → list_all is_word (codes "cpus" ∷ decimal cpus ∷ []) ≡ true
 cpus_plain cpus few = both _ _ refl (both _ _ (word_of_number cpus (omega (arith, few))) refl)

@@ -12,9 +12,11 @@ use Rattle.rt_base.specs.declared.id.TaskId.{TaskId}
 use Rattle.rt_base.specs.Script.{Script, TaskLine, LockLine, task_line, IsScript, IsTaskOf, IsLockWithin, IsCallOf}
 use Rattle.rt_script.specs.Canonical.{lock_kind_word, call_words, cpus_text, task_text, lock_text, call_text, calls_text, pick_text, lined_locks, with_line_feed, canonical_lines, canonical}
 use Rattle.rt_script.specs.Words.{is_printable}
-use Rattle.rt_script.proofs.WrittenWords.{left, right, both, is_word, line_of, printable_line, length_line}
+use Rattle.rt_script.proofs.ScriptParts.{task_fits}
+use Rattle.rt_script.proofs.Tests.{left, right, both}
+use Rattle.rt_script.proofs.WrittenWords.{is_word, line_of, printable_line, length_line}
 use Rattle.rt_script.proofs.WrittenPlain.{cpus_plain, task_plain, lock_plain, call_plain, pick_plain}
-use Rattle.rt_script.proofs.WrittenCalls.{Says, task_fits, call_says}
+use Rattle.rt_script.proofs.WrittenCalls.{Says, call_says}
 use Rattle.rt_script.proofs.WrittenLocks.{has_line}
 
 -- ---- lists of lines

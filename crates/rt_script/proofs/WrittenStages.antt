@@ -1,10 +1,9 @@
 -- The lines of each part of a written script lead to the script with that part.
-use Rattle.std.proofs.Common.{◌≡◌, ℕ, ◌+◌, ◌<◌, ◌≤◌, true, false, List, [], ◌∷◌, ◌++◌, length, map, flat_map, get_or, ltb, leb, All, Some, None, Ok, refl, sym, ap, subst, ◌∙◌, arith, append-nil, append_assoc, length-append}
+use Rattle.std.proofs.Common.{◌≡◌, ℕ, ◌+◌, ◌<◌, ◌≤◌, true, false, List, [], ◌∷◌, ◌++◌, length, map, flat_map, ltb, leb, All, Some, None, Ok, refl, sym, ap, subst, ◌∙◌, arith, append-nil, append_assoc, length-append}
 use Rattle.std.specs.Prelude.{codes, decimal, sum_by}
 use Rattle.std.proofs.lemmas.Bool.{lt-ltb, le-leb}
 use Rattle.std.proofs.lemmas.Grind.{flat_map-append}
 use Rattle.std.proofs.lemmas.List.{map-append, length-map}
-use Rattle.std.proofs.lemmas.Option.{unwrap_or-slice_get}
 use Rattle.std.proofs.lemmas.List.Sums.{sum-map, sum_by-append, sum_by-cons}
 use Rattle.std.proofs.Math.Seq.{set-append_seam, get_or-append_seam}
 use Rattle.std.proofs.lemmas.List.Concat.{flat_map_single}
@@ -13,19 +12,19 @@ use Rattle.rt_base.specs.declared.call.Call.{Call}
 use Rattle.rt_base.specs.declared.id.TaskId.{TaskId}
 use Rattle.rt_base.specs.declared.kind.Kind.{Kind}
 use Rattle.rt_base.specs.declared.kind.Kind.TheVariants as kinds
-use Rattle.rt_base.specs.Script.{Script, TaskLine, LockLine, task_line, lock_line, all_calls, locks_of, locks_of_lines, IsScript, IsTaskOf, IsLockWithin, IsCallOf}
+use Rattle.rt_base.specs.Script.{Script, TaskLine, LockLine, task_line, all_calls, locks_of, locks_of_lines, IsScript, IsTaskOf, IsLockWithin, IsCallOf}
 use Rattle.rt_script.specs.Adding.{empty_script, with_task, with_locks, with_call, with_pick}
 use Rattle.rt_script.specs.Canonical.{lock_kind_word, call_words, cpus_text, task_text, call_text, pick_text, calls_text}
-use Rattle.rt_script.specs.Calls.{call_form, call_in}
 use Rattle.rt_script.specs.Lines.{SoFar, after_cpus_line, after_task_line, after_lock_line, after_call_line, after_pick_line}
 use Rattle.rt_script.specs.Spelling.{cpu_spelled, kind_spelled}
 use Rattle.rt_script.specs.Names.{named, task_named}
 use Rattle.rt_script.specs.Words.{number_upto}
+use Rattle.rt_script.proofs.ScriptParts.{task_fits, lock_fits}
 use Rattle.rt_script.proofs.WrittenWords.{number_read}
 use Rattle.rt_script.proofs.WrittenPlain.{cpus_plain, task_plain, lock_plain, call_plain, pick_plain}
 use Rattle.rt_script.proofs.WrittenLines.{Reads, reads_line, reads_each}
 use Rattle.rt_script.proofs.WrittenNames.{name_of, uncalled, uncalled-names, length-middle, the_task_line, the_lock_line, task_is_new, lock_is_new, task_is_known}
-use Rattle.rt_script.proofs.WrittenCalls.{HasAll, Says, task_fits, call_says, cpu_read}
+use Rattle.rt_script.proofs.WrittenCalls.{HasAll, Says, call_says, cpu_read}
 use Rattle.rt_script.proofs.WrittenLocks.{line_text, starts}
 
 -- lines have begun, and made this
@@ -120,9 +119,7 @@ next_lock s h lines front line back whole e =
     let parts : s.locks ≡ before ++ (here ++ behind) = whole ∙ ap (locks_of_lines s.cpus) e ∙ flat_map-append (λ line. locks_of s.cpus line.0 line.1) front (line ∷ back) in
     let at : s.locks ≡ before ++ start.first ∷ (start.others ++ behind) = parts ∙ ap (λ (xs : List LockLine). before ++ (xs ++ behind)) start.whole in
     let within : length before < length s.locks = rw at (length-middle before start.first (start.others ++ behind)) in
-    let d : LockLine = record { name = []; kind = kinds.Mutex; cell = None } in
-    let is : lock_line s (record { 0 = length before }) ≡ get_or s.locks (length before) d = unwrap_or-slice_get s.locks (length before) d in
-    let fits : IsLockWithin s.cpus start.first = subst (IsLockWithin s.cpus) (sym is ∙ the_lock_line s before start.first (start.others ++ behind) at) (h.each_lock (length before) d within) in
+    let fits : IsLockWithin s.cpus start.first = subst (IsLockWithin s.cpus) (the_lock_line s before start.first (start.others ++ behind) at) (lock_fits s (record { 0 = length before }) h within) in
     let new : named (of_locks s front) start.first.name ≡ None = lock_is_new (of_locks s front) s h.names before start.first (start.others ++ behind) at start.cell (uncalled-names s.tasks) refl in
     record {
       shape = subst (λ (name : List ℕ). is_name name ≡ true) start.name_is fits.name;
@@ -156,7 +153,7 @@ of_calls s ts = record { cpus = s.cpus; tasks = ts; locks = s.locks; picks = [] 
 abbrev so_far : TaskLine → List Call → TaskLine
 so_far x done = record x { calls = done }
 
--- the tasks in front with all their calls, one with some, and those behind without
+-- the tasks before one with all their calls, that one with some, and those after it without
 abbrev amid : List TaskLine → TaskLine → List Call → List TaskLine → List TaskLine
 amid front x done back = front ++ so_far x done ∷ map uncalled back
 

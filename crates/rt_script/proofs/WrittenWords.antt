@@ -3,11 +3,9 @@ use Rattle.std.proofs.Common.{◌≡◌, ℕ, ◌+◌, ◌*◌, ◌<◌, ◌≤�
 use Rattle.std.specs.Prelude.{decimal, bytes_eq, ◌==◌}
 use Rattle.std.specs.List.{list_all}
 use Rattle.std.specs.Char.{is_ascii_digit}
-use Rattle.std.specs.Str.{all_ascii_digits}
 use Rattle.std.specs.Str.Parse.{digits_value}
 use Rattle.std.proofs.lemmas.Bool.Decides.{nat_tests}
 use Rattle.std.proofs.lemmas.Bool.{le-leb, lt-ltb, leb-true}
-use Rattle.std.proofs.lemmas.Str.Parse.{IsNumeralModel, numerals_by_value, tells_all_ascii_digits}
 use Rattle.std.proofs.lemmas.Fmt.{digits_decimal, digits_value-decimal, decimal_nonempty, length-decimal-le}
 use Rattle.std.proofs.lemmas.List.Folds.{list_all-append}
 use Rattle.std.proofs.lemmas.List.Splits.{slice_split_none, slice_split_at}
@@ -15,6 +13,8 @@ use Rattle.std.proofs.lemmas.List.Elements.{All-nil, All-cons}
 use Rattle.std.proofs.lemmas.Slice.Eq.{bytes_eq-Decides}
 use Rattle.rt_base.specs.Name.{is_name_byte, is_name}
 use Rattle.rt_base.specs.Text.{spaced}
+use Rattle.rt_script.proofs.Numbers.{decimals}
+use Rattle.rt_script.proofs.Tests.{left, right, both}
 use Rattle.rt_script.specs.Lines.{are_words}
 use Rattle.rt_script.specs.Words.{words_of, number_upto, is_printable}
 
@@ -27,17 +27,6 @@ is_word_byte b = leb 33 b && leb b 126
 -- 1 to 16 such bytes
 abbrev pub is_word : List ℕ → Bool
 is_word word = ltb 0 (length word) && leb (length word) 16 && list_all is_word_byte word
-
-pub left : (a b : Bool) → (a && b) ≡ true → a ≡ true
-left true b e = refl
-left false b e = e
-
-pub right : (a b : Bool) → (a && b) ≡ true → b ≡ true
-right true b e = e
-right false b e = absurd cc
-
-pub both : (a b : Bool) → a ≡ true → b ≡ true → (a && b) ≡ true
-both a b e f = rw (e, f) refl
 
 word_some : (word : List ℕ) → is_word word ≡ true → ltb 0 (length word) ≡ true
 word_some word e = left _ _ (left _ _ e)
@@ -63,26 +52,23 @@ word_of_name word e = both _ _ (left _ _ (left _ _ e)) (all_weaker is_name_byte 
 digit_byte : (b : ℕ) → is_ascii_digit b ≡ true → is_word_byte b ≡ true
 digit_byte b e = grind (arith, nat_tests)
 
-own : IsNumeralModel (λ ds. all_ascii_digits ds ≡ true) (digits_value 10)
-own = numerals_by_value _ tells_all_ascii_digits
-
 pub word_of_number : (n : ℕ) → n < 256 → is_word (decimal n) ≡ true
 word_of_number n small =
     let some : ltb 0 (length (decimal n)) ≡ true = lt-ltb 0 (length (decimal n)) (decimal_nonempty n (omega arith)) in
     let short : leb (length (decimal n)) 16 ≡ true = le-leb (length (decimal n)) 16 (omega (arith, length-decimal-le 3 n (omega arith) (omega arith) (omega arith))) in
-    both _ _ (both _ _ some short) (all_weaker is_ascii_digit is_word_byte digit_byte (decimal n) (digits_decimal own n (omega arith)))
+    both _ _ (both _ _ some short) (all_weaker is_ascii_digit is_word_byte digit_byte (decimal n) (digits_decimal decimals n (omega arith)))
 
 pub number_read : (most n : ℕ) → n ≤ most → most < 256 → number_upto most (decimal n) ≡ Some n
 unfolding number_upto
 number_read most n le small =
-    let value : digits_value 10 (decimal n) ≡ n = digits_value-decimal own n (omega arith) in
+    let value : digits_value 10 (decimal n) ≡ n = digits_value-decimal decimals n (omega arith) in
     let same : bytes_eq (decimal n) (decimal n) ≡ true = (bytes_eq-Decides (decimal n) (decimal n)).1 refl in
     let within : leb n most ≡ true = le-leb n most le in
     rw (value, same, within) refl
 
 -- ---- lines of words
 
--- a word, and others behind spaces
+-- a word, and others after spaces
 abbrev pub line_of : List ℕ → List (List ℕ) → List ℕ
 line_of first words = first ++ spaced words
 

@@ -152,7 +152,7 @@ impl Draft {
 pub(crate) fn are_printable(line: &[u8]) -> bool
     ensures { result ≡ list_all is_printable line.now }
 {
-    line.iter().all(|b| *b >= 32 && *b <= 126)
+    line.iter().all(|b| *b >= b' ' && *b <= b'~')
 }
 
 /// Whether a line is empty or begins with `#`.

@@ -4,14 +4,13 @@ use Rattle.std.specs.Prelude.{◌==◌, codes, bytes_eq}
 use Rattle.std.specs.List.{list_all}
 use Rattle.std.proofs.lemmas.Bool.Decides.{nat_tests}
 use Rattle.std.proofs.lemmas.List.Splits.{slice_split_at}
-use Rattle.std.proofs.lemmas.List.Elements.{All-nil, All-cons}
 use Rattle.rt_base.specs.Script.{Script}
 use Rattle.rt_script.specs.Canonical.{with_line_feed}
 use Rattle.rt_script.specs.Grammar.{after_lines, is_end}
 use Rattle.rt_script.specs.Lines.{SoFar, are_words, after_words, after_line}
 use Rattle.rt_script.specs.Words.{text_lines, is_printable, is_passed_over}
 use Rattle.rt_script.proofs.Tests.{left, right}
-use Rattle.rt_script.proofs.WrittenWords.{is_word, line_of, words_of-line, printable_line, no_empty_word}
+use Rattle.rt_script.proofs.WrittenWords.{all_other, is_word, line_of, words_of-line, printable_line, no_empty_word}
 
 -- ---- the lines of a text
 
@@ -19,8 +18,7 @@ no_line_feed : (b : ℕ) → is_printable b ≡ true → (b == 10) ≡ false
 no_line_feed b e = grind (arith, nat_tests)
 
 one_line : (line : List ℕ) → list_all is_printable line ≡ true → All (λ b. (b == 10) ≡ false) line
-one_line [] e = All-nil (λ b. (b == 10) ≡ false)
-one_line (b ∷ bs) e = All-cons (λ c. (c == 10) ≡ false) b bs (no_line_feed b (left _ _ e)) (one_line bs (right _ _ e))
+one_line line e = all_other is_printable 10 no_line_feed line e
 
 pub text_lines-lines : (lines : List (List ℕ)) → list_all (list_all is_printable) lines ≡ true → text_lines (flat_map with_line_feed lines) ≡ lines ++ [] ∷ []
 text_lines-lines [] e = refl

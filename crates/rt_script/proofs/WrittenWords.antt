@@ -76,9 +76,13 @@ line_of first words = first ++ spaced words
 no_space : (b : ℕ) → is_word_byte b ≡ true → (b == 32) ≡ false
 no_space b e = grind (arith, nat_tests)
 
+-- bytes that pass a test which the separator doesn't
+pub all_other : (p : ℕ → Bool) (separator : ℕ) → ((b : ℕ) → p b ≡ true → (b == separator) ≡ false) → (bs : List ℕ) → list_all p bs ≡ true → All (λ b. (b == separator) ≡ false) bs
+all_other p separator h [] e = All-nil (λ b. (b == separator) ≡ false)
+all_other p separator h (b ∷ bs) e = All-cons (λ c. (c == separator) ≡ false) b bs (h b (left _ _ e)) (all_other p separator h bs (right _ _ e))
+
 spaceless : (word : List ℕ) → list_all is_word_byte word ≡ true → All (λ b. (b == 32) ≡ false) word
-spaceless [] e = All-nil (λ b. (b == 32) ≡ false)
-spaceless (b ∷ bs) e = All-cons (λ c. (c == 32) ≡ false) b bs (no_space b (left _ _ e)) (spaceless bs (right _ _ e))
+spaceless word e = all_other is_word_byte 32 no_space word e
 
 pub words_of-line : (first : List ℕ) (words : List (List ℕ)) → list_all is_word (first ∷ words) ≡ true → words_of (line_of first words) ≡ first ∷ words
 words_of-line first [] e =

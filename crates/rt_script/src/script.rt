@@ -76,38 +76,6 @@ impl Script {
         self.picks.as_slice()
     }
 
-    /// All tasks.
-    pub(crate) fn task_lines(&self) -> &[Task]
-        ensures { result.now ≡ self.now.tasks }
-    {
-        self.tasks.as_slice()
-    }
-
-    /// All locks.
-    pub(crate) fn lock_lines(&self) -> &[Lock]
-        ensures { result.now ≡ self.now.locks }
-    {
-        self.locks.as_slice()
-    }
-
-    /// The task of a number.
-    fn task(&self, t: TaskId) -> &Task
-        requires { t.0 < length self.now.tasks }
-        ensures line { result.now ≡ task_line self.now t }
-        ensures name { is_name (task_line self.now t).name ≡ true }
-    {
-        &self.tasks[t.0 as usize]
-    }
-
-    /// The lock of a number.
-    fn lock(&self, l: LockId) -> &Lock
-        requires { l.0 < length self.now.locks }
-        ensures line { result.now ≡ lock_line self.now l }
-        ensures within { IsLockWithin self.now.cpus (lock_line self.now l) }
-    {
-        &self.locks[l.0 as usize]
-    }
-
     /// The priority of a task's line.
     pub fn own(&self, t: TaskId) -> Prio
         requires { t.0 < length self.now.tasks }
@@ -188,6 +156,16 @@ impl Script {
         }
     }
 
+    /// Sets the number of processors, where nothing was added yet.
+    pub(crate) fn set_cpus(&mut self, n: u8)
+        requires positive { 1 ≤ n }
+        requires few { n ≤ MAX_CPUS }
+        requires empty { self.old ≡ empty_script }
+        ensures { self.new ≡ with_cpus self.old n }
+    {
+        self.cpus = n;
+    }
+
     /// Adds a task after the others. An `Err` changes nothing.
     pub(crate) fn push_task(&mut self, task: Task) -> Result<(), AllocError>
         requires room { length self.old.tasks < MAX_TASKS }
@@ -199,16 +177,6 @@ impl Script {
     {
         self.tasks.push(task)?;
         Ok(())
-    }
-
-    /// Sets the number of processors, where nothing was added yet.
-    pub(crate) fn set_cpus(&mut self, n: u8)
-        requires positive { 1 ≤ n }
-        requires few { n ≤ MAX_CPUS }
-        requires empty { self.old ≡ empty_script }
-        ensures { self.new ≡ with_cpus self.old n }
-    {
-        self.cpus = n;
     }
 
     /// Adds the locks of one line after the others. An `Err` changes nothing.
@@ -244,5 +212,37 @@ impl Script {
     {
         self.picks.push(t)?;
         Ok(())
+    }
+
+    /// All tasks.
+    pub(crate) fn task_lines(&self) -> &[Task]
+        ensures { result.now ≡ self.now.tasks }
+    {
+        self.tasks.as_slice()
+    }
+
+    /// All locks.
+    pub(crate) fn lock_lines(&self) -> &[Lock]
+        ensures { result.now ≡ self.now.locks }
+    {
+        self.locks.as_slice()
+    }
+
+    /// The task of a number.
+    fn task(&self, t: TaskId) -> &Task
+        requires { t.0 < length self.now.tasks }
+        ensures line { result.now ≡ task_line self.now t }
+        ensures name { is_name (task_line self.now t).name ≡ true }
+    {
+        &self.tasks[t.0 as usize]
+    }
+
+    /// The lock of a number.
+    fn lock(&self, l: LockId) -> &Lock
+        requires { l.0 < length self.now.locks }
+        ensures line { result.now ≡ lock_line self.now l }
+        ensures within { IsLockWithin self.now.cpus (lock_line self.now l) }
+    {
+        &self.locks[l.0 as usize]
     }
 }

@@ -13,133 +13,65 @@ use itoa::Buffer;
 use rt_base::{Call, Kind, LockId, NoMemory, TaskId};
 use std::alloc::{AllocError, Global};
 
-/// The word for a kind of lock.
-fn kind_text(kind: Kind) -> &'static str
-    ensures { result.now ≡ lock_kind_word kind }
-{
-    match kind {
-        Kind::Mutex => "mutex",
-        Kind::Spin => "spin",
-        Kind::RwLock => "rwlock",
-        Kind::RwSem => "rwsem",
-        Kind::Local => "local",
-    }
-}
-
-/// Appends a word after a space.
-fn push_word(word: &str, out: &mut Vec<u8>) -> Result<(), AllocError>
-    ensures { OnOk result (out.new.items ≡ out.old.items ++ 32 ∷ word.now) }
-{
-    out.push(b' ')?;
-    out.extend_from_slice(word.as_bytes())?;
-    Ok(())
-}
-
-/// Appends the decimal digits of a number after a space.
-fn push_number(n: u8, out: &mut Vec<u8>) -> Result<(), AllocError>
-    ensures { OnOk result (out.new.items ≡ out.old.items ++ 32 ∷ decimal n) }
-{
-    out.push(b' ')?;
-    out.extend_from_slice(Buffer::new().format(n).as_bytes())?;
-    Ok(())
-}
-
-/// Appends a verb and its operand, each after a space.
-fn push_verb(verb: &str, operand: &str, out: &mut Vec<u8>) -> Result<(), AllocError>
-    ensures { OnOk result (out.new.items ≡ out.old.items ++ spaced (verb.now ∷ operand.now ∷ [])) }
-{
-    push_word(verb, out)?;
-    push_word(operand, out)
-}
-
-/// Appends the line of the processors.
-fn push_cpus_line(cpus: u8, out: &mut Vec<u8>) -> Result<(), AllocError>
-    ensures { OnOk result (out.new.items ≡ out.old.items ++ with_line_feed (cpus_text cpus)) }
-{
-    out.extend_from_slice(b"cpus")?;
-    push_number(cpus, out)?;
-    out.push(b'\n')?;
-    Ok(())
-}
-
-/// Appends the line of a task.
-fn push_task_line(task: &Task, out: &mut Vec<u8>) -> Result<(), AllocError>
-    ensures { OnOk result (out.new.items ≡ out.old.items ++ with_line_feed (task_text task.now)) }
-{
-    out.extend_from_slice(b"task")?;
-    push_word(task.name.as_str(), out)?;
-    push_number(task.own.get(), out)?;
-    push_number(task.cpu.0, out)?;
-    out.push(b'\n')?;
-    Ok(())
-}
-
-/// Whether a lock has a line of its own, as the cells of a local lock after the first don't.
-fn has_line(lock: &Lock) -> bool
-    ensures { result ≡ is_first_cell lock.now.cell }
-{
-    match lock.cell {
-        Some(cpu) => cpu.0 == 0,
-        None => true,
-    }
-}
-
-/// Appends the line of a lock, if it has one of its own.
-fn push_lock_line(lock: &Lock, out: &mut Vec<u8>) -> Result<(), AllocError>
-    ensures { OnOk result (out.new.items ≡ out.old.items ++ cond (is_first_cell lock.now.cell) (with_line_feed (lock_text lock.now)) []) }
-{
-    if !has_line(lock) {
-        return Ok(());
-    }
-    out.extend_from_slice(b"lock")?;
-    push_word(lock.name.as_str(), out)?;
-    push_word(kind_text(lock.kind), out)?;
-    out.push(b'\n')?;
-    Ok(())
-}
-
-/// Appends the lines of tasks.
-fn push_tasks(tasks: &[Task], out: &mut Vec<u8>) -> Result<(), AllocError>
-    ensures { OnOk result (out.new.items ≡ out.old.items ++ flat_map (λ (task : TaskLine). with_line_feed (task_text task)) tasks.now) }
-{
-    for task in tasks {
-        push_task_line(task, out)?;
-    }
-    Ok(())
-}
-
-/// Appends the lines of locks.
-fn push_locks(locks: &[Lock], out: &mut Vec<u8>) -> Result<(), AllocError>
-    ensures { OnOk result (out.new.items ≡ out.old.items ++ flat_map (λ (lock : LockLine). cond (is_first_cell lock.cell) (with_line_feed (lock_text lock)) []) locks.now) }
-{
-    for lock in locks {
-        push_lock_line(lock, out)?;
-    }
-    Ok(())
-}
-
-// Parts of the text.
 impl Script {
-    /// The name of a task, and nothing where there is no such task.
-    fn name_of_task(&self, t: TaskId) -> &str
-        ensures { result.now ≡ (task_line self.now t).name }
+    /// The canonical text of the script: the header, the number of processors, the tasks, the locks with a
+    /// local lock once, the calls of one task after those of another, the picks, and `go`. Each line ends
+    /// with a line feed, and there are no comments and no empty lines. By the rules of the script text
+    /// it is this script, and `read_script` takes it. An error is a want of memory.
+    pub fn write(&self, alloc: Global) -> Result<Vec<u8>, NoMemory>
+        ensures text { IfOk result (λ text. text.items ≡ canonical self.now) }
+        ensures parses { IfOk result (λ text. script_of text.items ≡ Ok self.now) }
+        ensures short { IfOk result (λ text. length text.items < text_limit) }
     {
-        if t.0 < self.tasks() {
-            self.task_name(t)
-        } else {
-            ""
-        }
+        let mut text = Vec::new(alloc);
+        self.push_text(&mut text)?;
+        Ok(text)
     }
 
-    /// The name of a lock, and nothing where there is no such lock.
-    fn name_of_lock(&self, l: LockId) -> &str
-        ensures { result.now ≡ (lock_line self.now l).name }
+    /// Appends the whole text.
+    fn push_text(&self, out: &mut Vec<u8>) -> Result<(), AllocError>
+        ensures text { OnOk result (out.new.items ≡ out.old.items ++ canonical self.now) }
+        ensures valid { OnOk result (IsScript self.now) }
     {
-        if l.0 < self.locks() {
-            self.lock_name(l)
-        } else {
-            ""
+        out.extend_from_slice(b"rtscript 1\n")?;
+        push_cpus_line(self.cpus(), out)?;
+        push_tasks(self.task_lines(), out)?;
+        push_locks(self.lock_lines(), out)?;
+        self.push_calls(out)?;
+        self.push_picks(out)?;
+        out.extend_from_slice(b"go\n")?;
+        Ok(())
+    }
+
+    /// Appends the lines of all calls, task by task.
+    fn push_calls(&self, out: &mut Vec<u8>) -> Result<(), AllocError>
+        ensures { OnOk result (out.new.items ≡ out.old.items ++ flat_map (λ (task : TaskLine). flat_map (λ call. with_line_feed (call_text self.now task call)) task.calls) self.now.tasks) }
+    {
+        for task in self.task_lines() {
+            self.push_calls_of(task, out)?;
         }
+        Ok(())
+    }
+
+    /// Appends the lines of a task's calls.
+    fn push_calls_of(&self, task: &Task, out: &mut Vec<u8>) -> Result<(), AllocError>
+        ensures { OnOk result (out.new.items ≡ out.old.items ++ flat_map (λ call. with_line_feed (call_text self.now task.now call)) task.now.calls) }
+    {
+        for call in &task.calls {
+            self.push_call_line(task, call, out)?;
+        }
+        Ok(())
+    }
+
+    /// Appends the line of a call.
+    fn push_call_line(&self, task: &Task, call: &Call, out: &mut Vec<u8>) -> Result<(), AllocError>
+        ensures { OnOk result (out.new.items ≡ out.old.items ++ with_line_feed (call_text self.now task.now call.now)) }
+    {
+        out.extend_from_slice(b"call")?;
+        push_word(task.name.as_str(), out)?;
+        self.push_call_words(call, out)?;
+        out.push(b'\n')?;
+        Ok(())
     }
 
     /// Appends the words of a call.
@@ -178,14 +110,13 @@ impl Script {
         }
     }
 
-    /// Appends the line of a call.
-    fn push_call_line(&self, task: &Task, call: &Call, out: &mut Vec<u8>) -> Result<(), AllocError>
-        ensures { OnOk result (out.new.items ≡ out.old.items ++ with_line_feed (call_text self.now task.now call.now)) }
+    /// Appends the lines of the picks.
+    fn push_picks(&self, out: &mut Vec<u8>) -> Result<(), AllocError>
+        ensures { OnOk result (out.new.items ≡ out.old.items ++ flat_map (λ t. with_line_feed (pick_text self.now t)) self.now.picks) }
     {
-        out.extend_from_slice(b"call")?;
-        push_word(task.name.as_str(), out)?;
-        self.push_call_words(call, out)?;
-        out.push(b'\n')?;
+        for t in self.picks() {
+            self.push_pick_line(*t, out)?;
+        }
         Ok(())
     }
 
@@ -199,62 +130,130 @@ impl Script {
         Ok(())
     }
 
-    /// Appends the lines of a task's calls.
-    fn push_calls_of(&self, task: &Task, out: &mut Vec<u8>) -> Result<(), AllocError>
-        ensures { OnOk result (out.new.items ≡ out.old.items ++ flat_map (λ call. with_line_feed (call_text self.now task.now call)) task.now.calls) }
+    /// The name of a task, and nothing where there is no such task.
+    fn name_of_task(&self, t: TaskId) -> &str
+        ensures { result.now ≡ (task_line self.now t).name }
     {
-        for call in &task.calls {
-            self.push_call_line(task, call, out)?;
+        if t.0 < self.tasks() {
+            self.task_name(t)
+        } else {
+            ""
         }
-        Ok(())
     }
 
-    /// Appends the lines of all calls, task by task.
-    fn push_calls(&self, out: &mut Vec<u8>) -> Result<(), AllocError>
-        ensures { OnOk result (out.new.items ≡ out.old.items ++ flat_map (λ (task : TaskLine). flat_map (λ call. with_line_feed (call_text self.now task call)) task.calls) self.now.tasks) }
+    /// The name of a lock, and nothing where there is no such lock.
+    fn name_of_lock(&self, l: LockId) -> &str
+        ensures { result.now ≡ (lock_line self.now l).name }
     {
-        for task in self.task_lines() {
-            self.push_calls_of(task, out)?;
+        if l.0 < self.locks() {
+            self.lock_name(l)
+        } else {
+            ""
         }
-        Ok(())
     }
+}
 
-    /// Appends the lines of the picks.
-    fn push_picks(&self, out: &mut Vec<u8>) -> Result<(), AllocError>
-        ensures { OnOk result (out.new.items ≡ out.old.items ++ flat_map (λ t. with_line_feed (pick_text self.now t)) self.now.picks) }
-    {
-        for t in self.picks() {
-            self.push_pick_line(*t, out)?;
-        }
-        Ok(())
-    }
+/// Appends the line of the processors.
+fn push_cpus_line(cpus: u8, out: &mut Vec<u8>) -> Result<(), AllocError>
+    ensures { OnOk result (out.new.items ≡ out.old.items ++ with_line_feed (cpus_text cpus)) }
+{
+    out.extend_from_slice(b"cpus")?;
+    push_number(cpus, out)?;
+    out.push(b'\n')?;
+    Ok(())
+}
 
-    /// Appends the whole text.
-    fn push_text(&self, out: &mut Vec<u8>) -> Result<(), AllocError>
-        ensures text { OnOk result (out.new.items ≡ out.old.items ++ canonical self.now) }
-        ensures valid { OnOk result (IsScript self.now) }
-    {
-        out.extend_from_slice(b"rtscript 1\n")?;
-        push_cpus_line(self.cpus(), out)?;
-        push_tasks(self.task_lines(), out)?;
-        push_locks(self.lock_lines(), out)?;
-        self.push_calls(out)?;
-        self.push_picks(out)?;
-        out.extend_from_slice(b"go\n")?;
-        Ok(())
+/// Appends the lines of tasks.
+fn push_tasks(tasks: &[Task], out: &mut Vec<u8>) -> Result<(), AllocError>
+    ensures { OnOk result (out.new.items ≡ out.old.items ++ flat_map (λ (task : TaskLine). with_line_feed (task_text task)) tasks.now) }
+{
+    for task in tasks {
+        push_task_line(task, out)?;
     }
+    Ok(())
+}
 
-    /// The canonical text of the script: the header, the number of processors, the tasks, the locks with a
-    /// local lock once, the calls of one task after those of another, the picks, and `go`. Each line ends
-    /// with a line feed, and there are no comments and no empty lines. By the rules of the script text
-    /// it is this script, and `read_script` takes it. An error is a want of memory.
-    pub fn write(&self, alloc: Global) -> Result<Vec<u8>, NoMemory>
-        ensures text { IfOk result (λ text. text.items ≡ canonical self.now) }
-        ensures parses { IfOk result (λ text. script_of text.items ≡ Ok self.now) }
-        ensures short { IfOk result (λ text. length text.items < text_limit) }
-    {
-        let mut text = Vec::new(alloc);
-        self.push_text(&mut text)?;
-        Ok(text)
+/// Appends the line of a task.
+fn push_task_line(task: &Task, out: &mut Vec<u8>) -> Result<(), AllocError>
+    ensures { OnOk result (out.new.items ≡ out.old.items ++ with_line_feed (task_text task.now)) }
+{
+    out.extend_from_slice(b"task")?;
+    push_word(task.name.as_str(), out)?;
+    push_number(task.own.get(), out)?;
+    push_number(task.cpu.0, out)?;
+    out.push(b'\n')?;
+    Ok(())
+}
+
+/// Appends the lines of locks.
+fn push_locks(locks: &[Lock], out: &mut Vec<u8>) -> Result<(), AllocError>
+    ensures { OnOk result (out.new.items ≡ out.old.items ++ flat_map (λ (lock : LockLine). cond (is_first_cell lock.cell) (with_line_feed (lock_text lock)) []) locks.now) }
+{
+    for lock in locks {
+        push_lock_line(lock, out)?;
     }
+    Ok(())
+}
+
+/// Appends the line of a lock, if it has one of its own.
+fn push_lock_line(lock: &Lock, out: &mut Vec<u8>) -> Result<(), AllocError>
+    ensures { OnOk result (out.new.items ≡ out.old.items ++ cond (is_first_cell lock.now.cell) (with_line_feed (lock_text lock.now)) []) }
+{
+    if !has_line(lock) {
+        return Ok(());
+    }
+    out.extend_from_slice(b"lock")?;
+    push_word(lock.name.as_str(), out)?;
+    push_word(kind_text(lock.kind), out)?;
+    out.push(b'\n')?;
+    Ok(())
+}
+
+/// Whether a lock has a line of its own, as the cells of a local lock after the first don't.
+fn has_line(lock: &Lock) -> bool
+    ensures { result ≡ is_first_cell lock.now.cell }
+{
+    match lock.cell {
+        Some(cpu) => cpu.0 == 0,
+        None => true,
+    }
+}
+
+/// The word for a kind of lock.
+fn kind_text(kind: Kind) -> &'static str
+    ensures { result.now ≡ lock_kind_word kind }
+{
+    match kind {
+        Kind::Mutex => "mutex",
+        Kind::Spin => "spin",
+        Kind::RwLock => "rwlock",
+        Kind::RwSem => "rwsem",
+        Kind::Local => "local",
+    }
+}
+
+/// Appends a verb and its operand, each after a space.
+fn push_verb(verb: &str, operand: &str, out: &mut Vec<u8>) -> Result<(), AllocError>
+    ensures { OnOk result (out.new.items ≡ out.old.items ++ spaced (verb.now ∷ operand.now ∷ [])) }
+{
+    push_word(verb, out)?;
+    push_word(operand, out)
+}
+
+/// Appends a word after a space.
+fn push_word(word: &str, out: &mut Vec<u8>) -> Result<(), AllocError>
+    ensures { OnOk result (out.new.items ≡ out.old.items ++ 32 ∷ word.now) }
+{
+    out.push(b' ')?;
+    out.extend_from_slice(word.as_bytes())?;
+    Ok(())
+}
+
+/// Appends the decimal digits of a number after a space.
+fn push_number(n: u8, out: &mut Vec<u8>) -> Result<(), AllocError>
+    ensures { OnOk result (out.new.items ≡ out.old.items ++ 32 ∷ decimal n) }
+{
+    out.push(b' ')?;
+    out.extend_from_slice(Buffer::new().format(n).as_bytes())?;
+    Ok(())
 }

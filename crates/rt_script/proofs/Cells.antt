@@ -77,40 +77,40 @@ first_at_zero cpus name kinds.Spin k d lt first = omega arith
 first_at_zero cpus name kinds.RwLock k d lt first = omega arith
 first_at_zero cpus name kinds.RwSem k d lt first = omega arith
 
--- the first of a line's locks, or one behind another of the name
-abbrev pub FirstOrBehind : List LockLine → ℕ → Type 0
-FirstOrBehind locks i = (d : LockLine) → (is_first_cell (get_or locks i d).cell ≡ true) ⊎ ((j : ℕ) × (i ≡ suc j) × ((get_or locks j d).name ≡ (get_or locks i d).name))
+-- the first of a line's locks, or one after another of the name
+abbrev pub FirstOrAfter : List LockLine → ℕ → Type 0
+FirstOrAfter locks i = (d : LockLine) → (is_first_cell (get_or locks i d).cell ≡ true) ⊎ ((j : ℕ) × (i ≡ suc j) × ((get_or locks j d).name ≡ (get_or locks i d).name))
 
-in_cells : (name : List ℕ) (n i : ℕ) → i < n → FirstOrBehind (cells_of name n) i
+in_cells : (name : List ℕ) (n i : ℕ) → i < n → FirstOrAfter (cells_of name n) i
 in_cells name n zero lt d = inl (ap (λ (l : LockLine). is_first_cell l.cell) (cell_of name n 0 d lt))
 in_cells name n (suc j) lt d =
     inr (j, refl, ap (λ (l : LockLine). l.name) (cell_of name n j d (omega arith)) ∙ sym (ap (λ (l : LockLine). l.name) (cell_of name n (suc j) d lt)))
 
-in_lone : (name : List ℕ) (kind : Kind) (i : ℕ) → i < 1 → FirstOrBehind (lone name kind ∷ []) i
+in_lone : (name : List ℕ) (kind : Kind) (i : ℕ) → i < 1 → FirstOrAfter (lone name kind ∷ []) i
 in_lone name kind zero lt d = inl refl
 in_lone name kind (suc i) lt d = absurd (omega arith)
 
-in_line : (cpus : ℕ) (name : List ℕ) (kind : Kind) (i : ℕ) → i < length (locks_of cpus name kind) → FirstOrBehind (locks_of cpus name kind) i
+in_line : (cpus : ℕ) (name : List ℕ) (kind : Kind) (i : ℕ) → i < length (locks_of cpus name kind) → FirstOrAfter (locks_of cpus name kind) i
 in_line cpus name kinds.Local i lt = in_cells name cpus i (omega (arith, length-cells_of name cpus))
 in_line cpus name kinds.Mutex i lt = in_lone name kinds.Mutex i lt
 in_line cpus name kinds.Spin i lt = in_lone name kinds.Spin i lt
 in_line cpus name kinds.RwLock i lt = in_lone name kinds.RwLock i lt
 in_line cpus name kinds.RwSem i lt = in_lone name kinds.RwSem i lt
 
-in_front : (xs ys : List LockLine) (i : ℕ) → i < length xs → FirstOrBehind xs i → FirstOrBehind (xs ++ ys) i
+in_front : (xs ys : List LockLine) (i : ℕ) → i < length xs → FirstOrAfter xs i → FirstOrAfter (xs ++ ys) i
 in_front xs ys i lt h d = elim (h d) [
   | inl first ↦ inl (rw (get_or_append_left xs ys d i lt) first)
   | inr behind ↦ inr (behind.0, behind.1, rw (get_or_append_left xs ys d i lt, get_or_append_left xs ys d behind.0 (omega (arith, behind.1))) behind.2)
 ]
 
-in_back : (xs ys : List LockLine) (i : ℕ) → FirstOrBehind ys i → FirstOrBehind (xs ++ ys) (length xs + i)
+in_back : (xs ys : List LockLine) (i : ℕ) → FirstOrAfter ys i → FirstOrAfter (xs ++ ys) (length xs + i)
 in_back xs ys i h d = elim (h d) [
   | inl first ↦ inl (rw (get_or-append-add xs ys i d) first)
   | inr behind ↦ inr (length xs + behind.0, omega (arith, behind.1), rw (get_or-append-add xs ys i d, get_or-append-add xs ys behind.0 d) behind.2)
 ]
 
--- each lock of whole lines is the first of its line, or behind another of its name
-pub in_lines : (cpus : ℕ) (lines : List (List ℕ × Kind)) (i : ℕ) → i < length (locks_of_lines cpus lines) → FirstOrBehind (locks_of_lines cpus lines) i
+-- each lock of whole lines is the first of its line, or one after another of its name
+pub in_lines : (cpus : ℕ) (lines : List (List ℕ × Kind)) (i : ℕ) → i < length (locks_of_lines cpus lines) → FirstOrAfter (locks_of_lines cpus lines) i
 in_lines cpus [] i lt = absurd (omega arith)
 in_lines cpus (line ∷ lines) i lt =
     let xs : List LockLine = locks_of cpus line.0 line.1 in
@@ -118,7 +118,7 @@ in_lines cpus (line ∷ lines) i lt =
     let len : length (xs ++ ys) ≡ length xs + length ys = length-append xs ys in
     elim (cases_lt i (length xs)) [
       | inl front ↦ in_front xs ys i front (in_line cpus line.0 line.1 i front)
-      | inr back ↦ let at : length xs + (i - length xs) ≡ i = omega arith in subst (FirstOrBehind (xs ++ ys)) at (in_back xs ys (i - length xs) (in_lines cpus lines (i - length xs) (omega arith)))
+      | inr back ↦ let at : length xs + (i - length xs) ≡ i = omega arith in subst (FirstOrAfter (xs ++ ys)) at (in_back xs ys (i - length xs) (in_lines cpus lines (i - length xs) (omega arith)))
     ]
 
 -- a local lock's first cell is that of processor 0

@@ -1,31 +1,21 @@
 -- A script stays one when a line is added to it.
-use Rattle.std.proofs.Common.{◌≡◌, ℕ, zero, suc, ◌+◌, ◌<◌, ◌≤◌, true, List, [], ◌∷◌, ◌++◌, length, get_or, set, refl, sym, ap, arith, length-append, length-set}
+use Rattle.std.proofs.Common.{◌≡◌, ℕ, ◌+◌, ◌<◌, ◌≤◌, List, [], ◌∷◌, ◌++◌, length, get_or, set, refl, sym, ap, arith, length-append, length-set}
 use Rattle.std.specs.Prelude.{None, All}
-use Rattle.std.proofs.lemmas.Option.{unwrap_or-slice_get}
 use Rattle.std.proofs.lemmas.List.Elements.{All-push, All-append, All-weaker, All-set}
 use Rattle.std.proofs.lemmas.List.Sums.{sum-map, sum_by_push, sum_by-set}
 use Rattle.rt_base.specs.declared.call.Call.{Call}
 use Rattle.rt_base.specs.declared.call.Call.TheVariants.{Lock, LockInt, TryLock, Unlock, Spin, TrySpin, Unspin, Read, TryRead, Unread, Write, TryWrite, Unwrite, Downgrade, Local, Unlocal, State, Schedule, Wake, Signal, SetPrio, Move}
 use Rattle.rt_base.specs.declared.id.TaskId.{TaskId}
 use Rattle.rt_base.specs.declared.id.LockId.{LockId}
-use Rattle.rt_base.specs.declared.kind.Kind.TheVariants as kinds
-use Rattle.rt_base.specs.Name.{is_name}
-use Rattle.rt_base.specs.Script.{Script, TaskLine, LockLine, task_line, lock_line, all_calls, IsLockOf, IsMutex, IsSpin, IsReaderLock, IsLocal, IsCallOf, IsTaskOf, IsLockWithin, IsScript}
+use Rattle.rt_base.specs.Script.{Script, TaskLine, LockLine, task_line, all_calls, IsLockOf, IsMutex, IsSpin, IsReaderLock, IsLocal, IsCallOf, IsTaskOf, IsLockWithin, IsScript}
 use Rattle.rt_script.specs.Adding.{with_task, with_locks, with_call, with_pick}
+use Rattle.rt_script.specs.Limits.{max_calls, max_locks, max_picks, max_tasks}
 use Rattle.rt_script.specs.Names.{named, AreNewLocks}
 use Rattle.rt_script.proofs.Cells.{fit_of}
+use Rattle.rt_script.proofs.ScriptParts.{no_task, task_at, task_fits, IsLockOf-append}
 use Rattle.rt_script.proofs.OwnNames.{HasOwnNames-with_task, HasOwnNames-with_locks, HasWholeLocks-with_locks, HasOwnNames-with_call}
 
 -- ---- what a call names is still there
-
--- a script that has only locks
-abbrev only : List LockLine → Script
-only locks = record { cpus = 1; tasks = []; locks = locks; picks = [] }
-
-lock_stays : (xs ys : List LockLine) (i : ℕ) (fits : LockLine → Type 0) → IsLockOf (only xs) fits (record { 0 = i }) → IsLockOf (only (xs ++ ys)) fits (record { 0 = i })
-lock_stays [] ys i fits h = absurd h
-lock_stays (x ∷ xs) ys zero fits h = h
-lock_stays (x ∷ xs) ys (suc i) fits h = lock_stays xs ys i fits h
 
 -- n has all that s has
 record Keeps (s n : Script) : Type 1 where
@@ -73,7 +63,7 @@ all_calls-with_task s line e =
     let none : f line ≡ 0 = ap length e in
     omega (arith, sum-map f s.tasks, sum-map f (s.tasks ++ line ∷ []), sum_by_push f s.tasks line, none)
 
-pub IsScript-with_task : (s : Script) (line : TaskLine) → IsScript s → length s.tasks < 64 → IsTaskOf s line → line.calls ≡ [] → named s line.name ≡ None → IsScript (with_task s line) × (all_calls (with_task s line) ≡ all_calls s)
+pub IsScript-with_task : (s : Script) (line : TaskLine) → IsScript s → length s.tasks < max_tasks → IsTaskOf s line → line.calls ≡ [] → named s line.name ≡ None → IsScript (with_task s line) × (all_calls (with_task s line) ≡ all_calls s)
 IsScript-with_task s line h room fits none free =
     let more : length (s.tasks ++ line ∷ []) ≡ length s.tasks + 1 = omega (arith, length-append s.tasks (line ∷ [])) in
     let n : Script = with_task s line in
@@ -97,10 +87,10 @@ IsScript-with_task s line h room fits none free =
 
 -- ---- locks more
 
-pub IsScript-with_locks : (s : Script) (lines : List LockLine) (key : List ℕ) → IsScript s → length s.locks + length lines ≤ 256 → AreNewLocks s key lines → IsScript (with_locks s lines)
+pub IsScript-with_locks : (s : Script) (lines : List LockLine) (key : List ℕ) → IsScript s → length s.locks + length lines ≤ max_locks → AreNewLocks s key lines → IsScript (with_locks s lines)
 IsScript-with_locks s lines key h room new =
     let n : Script = with_locks s lines in
-    let k : Keeps s n = record { cpus = refl; tasks = omega arith; locks = λ fits l h. lock_stays s.locks lines l.0 fits h } in
+    let k : Keeps s n = record { cpus = refl; tasks = omega arith; locks = λ fits l h. IsLockOf-append s.locks lines l.0 fits h } in
     let fits : All (IsLockWithin s.cpus) lines = rw new.made (fit_of s.cpus key new.kind new.shape) in
     record {
       cpus = h.cpus;
@@ -115,37 +105,20 @@ IsScript-with_locks s lines key h room new =
       whole = HasWholeLocks-with_locks s lines key h.whole new;
     }
 
--- ---- the line of a lock
-
-pub lock_within : (s : Script) (l : LockId) → IsScript s → l.0 < length s.locks → IsLockWithin s.cpus (lock_line s l)
-lock_within s l h in' =
-    let d : LockLine = record { name = []; kind = kinds.Mutex; cell = None } in
-    let is : lock_line s l ≡ get_or s.locks l.0 d = unwrap_or-slice_get s.locks l.0 d in
-    rw is (h.each_lock l.0 d in')
-
--- ---- the name of a task
-
-pub task_named : (s : Script) (t : TaskId) → IsScript s → t.0 < length s.tasks → is_name (task_line s t).name ≡ true
-task_named s t h in' =
-    let d : TaskLine = record { name = []; own = 0; cpu = record { 0 = 0 }; calls = [] } in
-    let is : task_line s t ≡ get_or s.tasks t.0 d = unwrap_or-slice_get s.tasks t.0 d in
-    let at : IsTaskOf s (get_or s.tasks t.0 d) = h.each_task t.0 d in' in
-    rw is at.name
-
 -- ---- a call more
 
-pub IsScript-with_call : (s : Script) (t : TaskId) (call : Call) → IsScript s → t.0 < length s.tasks → all_calls s < 16384 → IsCallOf s call → IsScript (with_call s t call) × (all_calls (with_call s t call) ≡ all_calls s + 1)
+pub IsScript-with_call : (s : Script) (t : TaskId) (call : Call) → IsScript s → t.0 < length s.tasks → all_calls s < max_calls → IsCallOf s call → IsScript (with_call s t call) × (all_calls (with_call s t call) ≡ all_calls s + 1)
 IsScript-with_call s t call h in' room fits =
-    let d : TaskLine = record { name = []; own = 0; cpu = record { 0 = 0 }; calls = [] } in
+    let d : TaskLine = no_task in
     let line : TaskLine = task_line s t in
     let new : TaskLine = record line { calls = line.calls ++ call ∷ [] } in
     let n : Script = with_call s t call in
     let f : TaskLine → ℕ = λ t. length t.calls in
-    let is : line ≡ get_or s.tasks t.0 d = unwrap_or-slice_get s.tasks t.0 d in
+    let is : line ≡ get_or s.tasks t.0 d = task_at s t in
     let len : length (set s.tasks t.0 new) ≡ length s.tasks = length-set s.tasks t.0 new in
     let k : Keeps s n = record { cpus = refl; tasks = omega arith; locks = λ fits l h. h } in
     let stays : (x : TaskLine) → IsTaskOf s x → IsTaskOf n x = task_stays s n k in
-    let old : IsTaskOf s line = rw is (h.each_task t.0 d in') in
+    let old : IsTaskOf s line = task_fits s t h in' in
     let one : length (line.calls ++ call ∷ []) ≡ length line.calls + 1 = omega (arith, length-append line.calls (call ∷ [])) in
     let fold : f (get_or s.tasks t.0 d) ≡ length line.calls = sym (ap f is) in
     let count : all_calls n ≡ all_calls s + 1 = omega (arith, sum-map f s.tasks, sum-map f (set s.tasks t.0 new), sum_by-set f s.tasks t.0 new d in', fold, one) in
@@ -167,7 +140,7 @@ IsScript-with_call s t call h in' room fits =
 
 -- ---- a pick more
 
-pub IsScript-with_pick : (s : Script) (t : TaskId) → IsScript s → t.0 < length s.tasks → length s.picks < 65536 → IsScript (with_pick s t)
+pub IsScript-with_pick : (s : Script) (t : TaskId) → IsScript s → t.0 < length s.tasks → length s.picks < max_picks → IsScript (with_pick s t)
 IsScript-with_pick s t h in' room = record {
   cpus = h.cpus;
   tasks = h.tasks;

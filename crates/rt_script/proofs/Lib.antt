@@ -1,10 +1,12 @@
-pub mod Calling
+pub mod CallFits
 pub mod Cells
 pub mod Growth
 pub mod Naming
 pub mod Numbers
 pub mod OwnNames
-pub mod Pieces
+pub mod ScriptParts
+pub mod Splits
+pub mod Tests
 pub mod Whole
 pub mod Written
 pub mod WrittenCalls

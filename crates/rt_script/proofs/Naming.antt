@@ -1,5 +1,5 @@
 -- What names stand for, as lines are added.
-use Rattle.std.proofs.Common.{◌≡◌, ℕ, zero, suc, ◌+◌, ◌<◌, ◌≤◌, Bool, true, false, cond, not, ◌&&◌, List, [], ◌∷◌, ◌++◌, length, get_or, set, ltb, eqb, Option, Some, None, refl, sym, ap, subst, ◌∙◌, arith, append_assoc, length-append, length-set}
+use Rattle.std.proofs.Common.{◌≡◌, ℕ, zero, suc, ◌+◌, ◌<◌, ◌≤◌, Bool, true, false, cond, not, List, [], ◌∷◌, ◌++◌, length, get_or, set, ltb, eqb, Option, Some, None, refl, sym, ap, subst, ◌∙◌, arith, append_assoc, length-append, length-set}
 use Rattle.std.specs.Prelude.{All, position, bytes_eq, option_map, String, string_bytes, IsUtf8, IsAscii}
 use Rattle.std.specs.List.{position_or_len, list_all}
 use Rattle.std.specs.Option.{option_or}
@@ -11,30 +11,30 @@ use Rattle.std.proofs.lemmas.List.Elements.{All-tail}
 use Rattle.std.proofs.lemmas.List.Sums.{prefix_len-le-length}
 use Rattle.std.proofs.lemmas.List.Folds.{position_or_len_push, position_or_len-set}
 use Rattle.std.proofs.lemmas.List.Quantifiers.{position-Some}
-use Rattle.std.proofs.lemmas.Option.{unwrap_or-slice_get}
 use Rattle.std.proofs.lemmas.Slice.Eq.{bytes_eq-Decides}
 use Rattle.std.proofs.lemmas.Str.{IsUtf8-string_bytes, IsUtf8-from_ascii}
 use Rattle.rt_base.specs.declared.call.Call.{Call}
-use Rattle.rt_base.specs.declared.kind.Kind.TheVariants.{Mutex}
 use Rattle.rt_base.specs.declared.id.TaskId.{TaskId}
 use Rattle.rt_base.specs.declared.id.LockId.{LockId}
 use Rattle.rt_base.specs.Script.{Script, TaskLine, LockLine, task_line, task_place, lock_place}
 use Rattle.rt_script.specs.declared.named.Named.{Named}
 use Rattle.rt_script.specs.declared.named.Named.TheVariants.{Task, Lock}
-use Rattle.rt_script.specs.Adding.{no_lines, with_cpus, with_task, with_locks, with_call, with_pick}
+use Rattle.rt_script.specs.Adding.{empty_script, with_cpus, with_task, with_locks, with_call, with_pick}
 use Rattle.rt_base.specs.Name.{is_name_byte, is_name}
+use Rattle.rt_script.proofs.Tests.{left, right}
+use Rattle.rt_script.proofs.ScriptParts.{no_task, no_lock, task_at}
 use Rattle.rt_script.specs.Names.{the_task, the_lock, named}
 
--- ---- the place of a name
+-- ---- the index of a name
 
-placed : (n len : ℕ) (b : Bool) → n ≤ len → let at : ℕ = cond (eqb n len) (len + cond b 0 1) n in cond (ltb at (len + 1)) (Some at) None ≡ option_or (cond (ltb n len) (Some n) None) (cond b (Some len) None)
-placed n len true le = grind (arith, nat_tests)
-placed n len false le = grind (arith, nat_tests)
+pushed_index : (n len : ℕ) (b : Bool) → n ≤ len → let at : ℕ = cond (eqb n len) (len + cond b 0 1) n in cond (ltb at (len + 1)) (Some at) None ≡ option_or (cond (ltb n len) (Some n) None) (cond b (Some len) None)
+pushed_index n len true le = grind (arith, nat_tests)
+pushed_index n len false le = grind (arith, nat_tests)
 
 pub position_push : {X : Type 0} (p : X → Bool) (xs : List X) (y : X) → position p (xs ++ y ∷ []) ≡ option_or (position p xs) (cond (p y) (Some (length xs)) None)
 position_push p xs y =
     let more : length (xs ++ y ∷ []) ≡ length xs + 1 = omega (arith, length-append xs (y ∷ [])) in
-    rw (position_or_len_push p xs y, more) (placed (position_or_len p xs) (length xs) (p y) (prefix_len-le-length (λ x. not (p x)) xs))
+    rw (position_or_len_push p xs y, more) (pushed_index (position_or_len p xs) (length xs) (p y) (prefix_len-le-length (λ x. not (p x)) xs))
 
 pub position-set : {X : Type 0} (p : X → Bool) (xs : List X) (i : ℕ) (y d : X) → p y ≡ p (get_or xs i d) → position p (set xs i y) ≡ position p xs
 position-set p xs i y d e = rw (position_or_len-set p xs i y d e, length-set xs i y) refl
@@ -44,7 +44,7 @@ twice (Some i) b n m = refl
 twice None true n m = refl
 twice None false n m = refl
 
--- elements behind the others, all of which pass, or don't
+-- elements after the others, all of which pass, or don't
 position_append : {X : Type 0} (p : X → Bool) (b : Bool) (xs : List X) (y : X) (ys : List X) → p y ≡ b → All (λ z. p z ≡ b) ys → position p (xs ++ y ∷ ys) ≡ option_or (position p xs) (cond b (Some (length xs)) None)
 position_append p b xs y [] e all = rw (position_push p xs y, e) refl
 position_append p b xs y (z ∷ zs) e all =
@@ -57,7 +57,7 @@ position_append p b xs y (z ∷ zs) e all =
 
 -- ---- names of a script
 
-pub named-nothing : (name : List ℕ) → named no_lines name ≡ None
+pub named-nothing : (name : List ℕ) → named empty_script name ≡ None
 unfolding named
 named-nothing name = refl
 
@@ -90,9 +90,9 @@ named-with_task s line new name =
     let free : bytes_eq name line.name ≡ true → named s name ≡ None = λ e. rw ((bytes_eq-Decides name line.name).0 e) new in
     rw (position_push tasks s.tasks line, same_test line.name name) (added_task (position tasks s.tasks) (position locks s.locks) (length s.tasks) (bytes_eq name line.name) free)
 
-pub locks_placed : (p : LockLine → Bool) (b : Bool) (xs ys : List LockLine) → All (λ y. p y ≡ b) ys → 1 ≤ length ys → position p (xs ++ ys) ≡ option_or (position p xs) (cond b (Some (length xs)) None)
-locks_placed p b xs [] all some = absurd (omega arith)
-locks_placed p b xs (y ∷ ys) all some = position_append p b xs y ys (all 0 y (omega arith)) (All-tail (λ y. p y ≡ b) y ys all)
+pub locks_found : (p : LockLine → Bool) (b : Bool) (xs ys : List LockLine) → All (λ y. p y ≡ b) ys → 1 ≤ length ys → position p (xs ++ ys) ≡ option_or (position p xs) (cond b (Some (length xs)) None)
+locks_found p b xs [] all some = absurd (omega arith)
+locks_found p b xs (y ∷ ys) all some = position_append p b xs y ys (all 0 y (omega arith)) (All-tail (λ y. p y ≡ b) y ys all)
 
 pub named-with_locks : (s : Script) (lines : List LockLine) (key : List ℕ) → All (λ (line : LockLine). line.name ≡ key) lines → 1 ≤ length lines → named s key ≡ None → (name : List ℕ) → named (with_locks s lines) name ≡ update bytes_eq (named s) key (Some (the_lock (length s.locks))) name
 unfolding named
@@ -101,7 +101,7 @@ named-with_locks s lines key names some new name =
     let locks : LockLine → Bool = λ l. bytes_eq name l.name in
     let free : bytes_eq name key ≡ true → named s name ≡ None = λ e. rw ((bytes_eq-Decides name key).0 e) new in
     let all : All (λ l. locks l ≡ bytes_eq name key) lines = λ i d in'. ap (bytes_eq name) (names i d in') in
-    rw (locks_placed locks (bytes_eq name key) s.locks lines all some, same_test key name) (added_lock (position tasks s.tasks) (position locks s.locks) (length s.locks) (bytes_eq name key) free)
+    rw (locks_found locks (bytes_eq name key) s.locks lines all some, same_test key name) (added_lock (position tasks s.tasks) (position locks s.locks) (length s.locks) (bytes_eq name key) free)
 
 pub named-with_cpus : (s : Script) (n : ℕ) (name : List ℕ) → named (with_cpus s n) name ≡ named s name
 unfolding named
@@ -112,9 +112,8 @@ unfolding named
 named-with_call s t call name =
     let test : TaskLine → Bool = λ line. bytes_eq name line.name in
     let line : TaskLine = task_line s t in
-    let d : TaskLine = record { name = []; own = 0; cpu = record { 0 = 0 }; calls = [] } in
-    let same : test line ≡ test (get_or s.tasks t.0 d) = ap test (unwrap_or-slice_get s.tasks t.0 d) in
-    ap (λ (place : Option ℕ). either place (position (λ (l : LockLine). bytes_eq name l.name) s.locks)) (position-set test s.tasks t.0 (record line { calls = line.calls ++ call ∷ [] }) d same)
+    let same : test line ≡ test (get_or s.tasks t.0 no_task) = ap test (task_at s t) in
+    ap (λ (place : Option ℕ). either place (position (λ (l : LockLine). bytes_eq name l.name) s.locks)) (position-set test s.tasks t.0 (record line { calls = line.calls ++ call ∷ [] }) no_task same)
 
 pub named-with_pick : (s : Script) (t : TaskId) (name : List ℕ) → named (with_pick s t) name ≡ named s name
 unfolding named
@@ -139,14 +138,14 @@ unfolding named
 task_within s name t e =
     let tasks : TaskLine → Bool = λ t. bytes_eq name t.name in
     let locks : LockLine → Bool = λ l. bytes_eq name l.name in
-    (position-Some tasks s.tasks t.0 (record { name = []; own = 0; cpu = record { 0 = 0 }; calls = [] }) (task_is (position tasks s.tasks) (position locks s.locks) t e)).0
+    (position-Some tasks s.tasks t.0 no_task (task_is (position tasks s.tasks) (position locks s.locks) t e)).0
 
 pub lock_within : (s : Script) (name : List ℕ) (l : LockId) → named s name ≡ Some (Lock l) → l.0 < length s.locks
 unfolding named
 lock_within s name l e =
     let tasks : TaskLine → Bool = λ t. bytes_eq name t.name in
     let locks : LockLine → Bool = λ l. bytes_eq name l.name in
-    (position-Some locks s.locks l.0 (record { name = []; kind = Mutex; cell = None }) (lock_is (position tasks s.tasks) (position locks s.locks) l e)).0
+    (position-Some locks s.locks l.0 no_lock (lock_is (position tasks s.tasks) (position locks s.locks) l e)).0
 
 none_of : (a b : Option ℕ) → either a b ≡ None → (a ≡ None) × (b ≡ None)
 none_of (Some i) b e = absurd cc
@@ -154,13 +153,13 @@ none_of None (Some j) e = absurd cc
 none_of None None e = (refl, refl)
 
 -- a name that stands for nothing is no task's, and no lock's
-pub no_place : (s : Script) (name : List ℕ) → named s name ≡ None → (task_place s name ≡ None) × (lock_place s name ≡ None)
+pub no_index : (s : Script) (name : List ℕ) → named s name ≡ None → (task_place s name ≡ None) × (lock_place s name ≡ None)
 unfolding named
-no_place s name e = none_of (task_place s name) (lock_place s name) e
+no_index s name e = none_of (task_place s name) (lock_place s name) e
 
-pub place_of_lock : (s : Script) (name : List ℕ) (l : LockId) → named s name ≡ Some (Lock l) → lock_place s name ≡ Some l.0
+pub lock_index_of : (s : Script) (name : List ℕ) (l : LockId) → named s name ≡ Some (Lock l) → lock_place s name ≡ Some l.0
 unfolding named
-place_of_lock s name l e = lock_is (task_place s name) (lock_place s name) l e
+lock_index_of s name l e = lock_is (task_place s name) (lock_place s name) l e
 
 -- ---- a map whose keys are texts has no other
 
@@ -195,18 +194,10 @@ names-with_locks old new s lines key id before after names some id-is free name 
 name_byte_fits : (b : ℕ) → is_name_byte b ≡ true → b < 128
 name_byte_fits b e = grind (arith, nat_tests)
 
-first_holds : (a b : Bool) → (a && b) ≡ true → a ≡ true
-first_holds true b e = refl
-first_holds false b e = e
-
-second_holds : (a b : Bool) → (a && b) ≡ true → b ≡ true
-second_holds true b e = e
-second_holds false b e = absurd cc
-
 name_bytes_fit : (bs : List ℕ) → list_all is_name_byte bs ≡ true → IsAscii bs
 name_bytes_fit [] e i = omega arith
-name_bytes_fit (b ∷ bs) e zero = name_byte_fits b (first_holds _ _ e)
-name_bytes_fit (b ∷ bs) e (suc i) = name_bytes_fit bs (second_holds _ _ e) i
+name_bytes_fit (b ∷ bs) e zero = name_byte_fits b (left _ _ e)
+name_bytes_fit (b ∷ bs) e (suc i) = name_bytes_fit bs (right _ _ e) i
 
 pub IsUtf8-from_name : (word : List ℕ) → is_name word ≡ true → IsUtf8 word
-IsUtf8-from_name word e = IsUtf8-from_ascii word (name_bytes_fit word (second_holds _ _ e))
+IsUtf8-from_name word e = IsUtf8-from_ascii word (name_bytes_fit word (right _ _ e))

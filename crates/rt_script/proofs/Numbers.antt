@@ -28,8 +28,9 @@ digits_upto-past most n ds lt =
 
 -- ---- whole words
 
-own : IsNumeralModel (λ ds. all_ascii_digits ds ≡ true) (digits_value 10)
-own = numerals_by_value _ tells_all_ascii_digits
+-- what digits spell
+pub decimals : IsNumeralModel (λ ds. all_ascii_digits ds ≡ true) (digits_value 10)
+decimals = numerals_by_value _ tells_all_ascii_digits
 
 -- the number that the word would be
 abbrev tested : ℕ → List ℕ → Bool
@@ -82,8 +83,8 @@ pub number_upto-digits : (most : ℕ) (word : List ℕ) → most < 256 → 0 < l
 number_upto-digits most word small some first =
     let v : ℕ = digits_value 10 word in
     let to : leb v most ≡ true → all_ascii_digits word ≡ true → bytes_eq (decimal v) word ≡ true =
-    λ le e. (bytes_eq-Decides (decimal v) word).1 (decimal-digits_value own word e some first (omega (arith, leb-true v most le))) in
+    λ le e. (bytes_eq-Decides (decimal v) word).1 (decimal-digits_value decimals word e some first (omega (arith, leb-true v most le))) in
     let from : leb v most ≡ true → bytes_eq (decimal v) word ≡ true → all_ascii_digits word ≡ true =
-    λ le e. subst (λ ds. all_ascii_digits ds ≡ true) (spelled word e) (digits_decimal own v (omega (arith, leb-true v most le))) in
+    λ le e. subst (λ ds. all_ascii_digits ds ≡ true) (spelled word e) (digits_decimal decimals v (omega (arith, leb-true v most le))) in
     let tests : (all_ascii_digits word && leb v most) ≡ tested most word = same_with _ _ _ (λ le. same _ _ (to le) (from le)) in
     ap (λ (b : Bool). only_if b (Some v)) tests ∙ sym (number_upto-tested most word)

@@ -11,13 +11,11 @@ use Rattle.std.proofs.lemmas.Grind.{flat_map-append}
 use Rattle.std.proofs.lemmas.List.{get_or_append_left, get_or-append_right, get_or_push, get_or-set_same, get_or-set_other}
 use Rattle.std.proofs.lemmas.List.Quantifiers.{position-Some}
 use Rattle.std.proofs.lemmas.List.Sums.{fails_before_first}
-use Rattle.std.proofs.lemmas.Option.{unwrap_or-slice_get}
 use Rattle.std.proofs.lemmas.Slice.Eq.{bytes_eq-Decides}
 use Rattle.rt_base.specs.declared.call.Call.{Call}
 use Rattle.rt_base.specs.declared.id.TaskId.{TaskId}
 use Rattle.rt_base.specs.declared.id.LockId.{LockId}
 use Rattle.rt_base.specs.declared.kind.Kind.{Kind}
-use Rattle.rt_base.specs.declared.kind.Kind.TheVariants as kinds
 use Rattle.rt_base.specs.Name.{is_name}
 use Rattle.rt_base.specs.Script.{Script, TaskLine, LockLine, task_line, lock_line, task_place, is_first_cell, locks_of, locks_of_lines, HasOwnNames, HasWholeLocks, IsScript}
 use Rattle.rt_script.specs.declared.fault.Why.TheVariants.{Unknown}
@@ -27,22 +25,10 @@ use Rattle.rt_script.specs.Judging.{need}
 use Rattle.rt_script.specs.Adding.{with_task, with_locks, with_call}
 use Rattle.rt_script.specs.Names.{named, only_lock, lock_named, AreNewLocks}
 use Rattle.rt_script.proofs.Cells.{some_of, named_of, first_at_zero, in_lines}
-use Rattle.rt_script.proofs.Naming.{position_push, position-set, locks_placed, same_test, no_place, place_of_lock, names-with_locks}
+use Rattle.rt_script.proofs.ScriptParts.{no_task, no_lock, task_at, lock_at}
+use Rattle.rt_script.proofs.Naming.{position_push, position-set, locks_found, same_test, no_index, lock_index_of, names-with_locks}
 
--- what stands where there is no task, and no lock
-abbrev no_task : TaskLine
-no_task = record { name = []; own = 0; cpu = record { 0 = 0 }; calls = [] }
-
-abbrev no_lock : LockLine
-no_lock = record { name = []; kind = kinds.Mutex; cell = None }
-
-task_at : (s : Script) (t : TaskId) → task_line s t ≡ get_or s.tasks t.0 no_task
-task_at s t = unwrap_or-slice_get s.tasks t.0 no_task
-
-lock_at : (s : Script) (l : LockId) → lock_line s l ≡ get_or s.locks l.0 no_lock
-lock_at s l = unwrap_or-slice_get s.locks l.0 no_lock
-
--- the places of a name among tasks and among locks
+-- the index of a name among tasks and among locks
 abbrev task_in : List TaskLine → List ℕ → Option ℕ
 task_in xs name = position (λ (t : TaskLine). bytes_eq name t.name) xs
 
@@ -83,7 +69,7 @@ still_none o b n e f = rw (e, f) refl
 pub HasOwnNames-with_task : (s : Script) (line : TaskLine) → HasOwnNames s → named s line.name ≡ None → HasOwnNames (with_task s line)
 HasOwnNames-with_task s line h free =
     let n : Script = with_task s line in
-    let none = no_place s line.name free in
+    let none = no_index s line.name free in
     let more : length (s.tasks ++ line ∷ []) ≡ length s.tasks + 1 = omega (arith, length-append s.tasks (line ∷ [])) in
     record {
       task = λ t lt.
@@ -106,17 +92,17 @@ own_lock xs ys key i d names some none old back lt = elim (cases_lt i (length xs
       let is : get_or (xs ++ ys) i d ≡ get_or xs i d = get_or_append_left xs ys d i below in
       let test : LockLine → Bool = λ l. bytes_eq n l.name in
       let all : All (λ (l : LockLine). test l ≡ bytes_eq n key) ys = λ k e in'. ap (bytes_eq n) (names k e in') in
-      ap (λ (l : LockLine). lock_in (xs ++ ys) l.name) is ∙ locks_placed test (bytes_eq n key) xs ys all some ∙ ap (λ (o : Option ℕ). option_or o (cond (bytes_eq n key) (Some (length xs)) None)) (old below)
+      ap (λ (l : LockLine). lock_in (xs ++ ys) l.name) is ∙ locks_found test (bytes_eq n key) xs ys all some ∙ ap (λ (o : Option ℕ). option_or o (cond (bytes_eq n key) (Some (length xs)) None)) (old below)
   | inr above ↦
       let at : i ≡ length xs = back above in
       let is : get_or (xs ++ ys) i d ≡ get_or ys (i - length xs) d = get_or-append_right xs ys (length xs) i d refl above in
       let name : (get_or (xs ++ ys) i d).name ≡ key = ap (λ (l : LockLine). l.name) is ∙ names (i - length xs) d (omega arith) in
       let test : LockLine → Bool = λ l. bytes_eq key l.name in
       let all : All (λ (l : LockLine). test l ≡ true) ys = λ k e in'. ap (bytes_eq key) (names k e in') ∙ same_name key in
-      ap (λ (n : List ℕ). lock_in (xs ++ ys) n) name ∙ locks_placed test true xs ys all some ∙ ap (λ (o : Option ℕ). option_or o (Some (length xs))) none ∙ ap (λ (n : ℕ). Some n) (sym at)
+      ap (λ (n : List ℕ). lock_in (xs ++ ys) n) name ∙ locks_found test true xs ys all some ∙ ap (λ (o : Option ℕ). option_or o (Some (length xs))) none ∙ ap (λ (n : ℕ). Some n) (sym at)
 ]
 
--- a task's place at the name of a lock, one of the old ones or of the new ones
+-- what holds of the name of a lock, one of the old ones or of the new ones
 apart_of : (P : List ℕ → Type 0) (xs ys : List LockLine) (key : List ℕ) (i : ℕ) (d : LockLine) → All (λ (y : LockLine). y.name ≡ key) ys → P key → (i < length xs → P (get_or xs i d).name) → i < length xs + length ys → P (get_or (xs ++ ys) i d).name
 apart_of P xs ys key i d names new old lt = elim (cases_lt i (length xs)) [
   | inl below ↦ rw (get_or_append_left xs ys d i below) (old below)
@@ -127,7 +113,7 @@ pub HasOwnNames-with_locks : (s : Script) (lines : List LockLine) (key : List �
 HasOwnNames-with_locks s lines key h new =
     let n : Script = with_locks s lines in
     let own : List LockLine = locks_of s.cpus key new.kind in
-    let none = no_place s key new.free in
+    let none = no_index s key new.free in
     let names : All (λ (y : LockLine). y.name ≡ key) lines = rw new.made (named_of s.cpus key new.kind) in
     let some : 1 ≤ length lines = rw new.made (some_of s.cpus key new.kind h.cpus.0) in
     let more : length (s.locks ++ lines) ≡ length s.locks + length lines = length-append s.locks lines in
@@ -200,7 +186,7 @@ first_of_lines cpus lines name i d e =
 
 pub first_named : (s : Script) (name : List ℕ) (l : LockId) → IsScript s → named s name ≡ Some (Lock l) → is_first_cell (lock_line s l).cell ≡ true
 first_named s name l h e =
-    let place : lock_in s.locks name ≡ Some l.0 = place_of_lock s name l e in
+    let place : lock_in s.locks name ≡ Some l.0 = lock_index_of s name l e in
     let whole = h.whole in
     rw (lock_at s l, whole.1) (first_of_lines s.cpus whole.0 name l.0 no_lock (rw whole.1 at place))
 

@@ -42,7 +42,7 @@ calls_of s (t ∷ ts) =
 in_order : (o h c t l k p g : List ℕ) → o ++ h ++ c ++ t ++ l ++ k ++ p ++ g ≡ o ++ (h ++ (c ++ (t ++ l ++ k ++ p ++ g)))
 in_order o h c t l k p g = simp append_assoc refl
 
--- the parts one behind another are the text
+-- the parts one after another are the text
 canonical_is : (s : Script) (old : List ℕ) → old ++ codes "rtscript 1\n" ++ with_line_feed (cpus_text s.cpus) ++ tasks_part s.tasks ++ locks_part s.locks ++ calls_part s ++ picks_part s ++ codes "go\n" ≡ old ++ canonical s
 canonical_is s old =
     let w : List ℕ → List ℕ = with_line_feed in

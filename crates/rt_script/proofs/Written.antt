@@ -4,16 +4,17 @@ use Rattle.std.specs.Prelude.{codes}
 use Rattle.std.proofs.lemmas.List.Concat.{flat_map_single}
 use Rattle.rt_base.specs.declared.kind.Kind.{Kind}
 use Rattle.rt_base.specs.Script.{Script, TaskLine, LockLine, locks_of_lines, IsScript}
-use Rattle.rt_script.specs.Adding.{no_lines}
+use Rattle.rt_script.specs.Adding.{empty_script}
 use Rattle.rt_script.specs.Canonical.{cpus_text, task_text, lock_text, calls_text, pick_text, lined_locks, canonical_lines, canonical}
-use Rattle.rt_script.specs.Grammar.{SoFar, after_lines, script_of_lines, script_of}
-use Rattle.rt_script.proofs.WrittenLines.{Reads, lines_of-lines, reads_then}
+use Rattle.rt_script.specs.Grammar.{after_lines, script_of_lines, script_of}
+use Rattle.rt_script.specs.Lines.{SoFar}
+use Rattle.rt_script.proofs.WrittenLines.{Reads, text_lines-lines, reads_then}
 use Rattle.rt_script.proofs.WrittenNames.{uncalled}
 use Rattle.rt_script.proofs.WrittenLocks.{has_line, line_text, written_locks}
 use Rattle.rt_script.proofs.WrittenSize.{lines_fit, printable_lines}
 use Rattle.rt_script.proofs.WrittenStages.{begun, empty, of_tasks, of_locks, of_calls, of_picks, reads_cpus, reads_tasks, reads_locks, reads_calls, reads_picks}
 
--- these lines, with `go` behind them, end as that script
+-- these lines, with `go` after them, end as that script
 Ends : SoFar → List (List ℕ) → Script → Type 0
 Ends a lines s = (n : ℕ) → after_lines n a (lines ++ [] ∷ []) ≡ Ok s
 
@@ -29,7 +30,7 @@ ends_then a b lines more s first next n =
 
 -- what the lines between the header and `go` lead to
 reads_body : (s : Script) → IsScript s → (lines : List (List ℕ × Kind)) → s.locks ≡ locks_of_lines s.cpus lines
-    → Ends (record { script = no_lines; begun = false }) (cpus_text s.cpus ∷ map task_text s.tasks ++ map lock_text (lined_locks s) ++ flat_map (calls_text s) s.tasks ++ map (pick_text s) s.picks ++ codes "go" ∷ []) s
+    → Ends (record { script = empty_script; begun = false }) (cpus_text s.cpus ∷ map task_text s.tasks ++ map lock_text (lined_locks s) ++ flat_map (calls_text s) s.tasks ++ map (pick_text s) s.picks ++ codes "go" ∷ []) s
 reads_body s h lines whole =
     let picks : Reads (begun (of_picks s [])) (map (pick_text s) s.picks) (begun s) = subst (λ (ls : List (List ℕ)). Reads (begun (of_picks s [])) ls (begun s)) (flat_map_single (pick_text s) s.picks) (reads_picks s h) in
     let calls : Reads (begun (of_calls s (map uncalled s.tasks))) (flat_map (calls_text s) s.tasks) (begun (of_picks s [])) =
@@ -47,4 +48,4 @@ reads_body s h lines whole =
 
 pub parses : (s : Script) → IsScript s → script_of (canonical s) ≡ Ok s
 unfolding script_of Ends
-parses s h = ap script_of_lines (lines_of-lines (canonical_lines s) (printable_lines (canonical_lines s) (lines_fit s h))) ∙ reads_body s h h.whole.0 h.whole.1 2
+parses s h = ap script_of_lines (text_lines-lines (canonical_lines s) (printable_lines (canonical_lines s) (lines_fit s h))) ∙ reads_body s h h.whole.0 h.whole.1 2

@@ -1,9 +1,8 @@
 -- The words of a call are read as that call.
-use Rattle.std.proofs.Common.{◌≡◌, ◌≢◌, ℕ, zero, suc, ◌<◌, ◌≤◌, true, List, [], ◌∷◌, ◌++◌, length, map, get_or, ltb, leb, Option, Some, None, Ok, refl, sym, ◌∙◌, arith}
+use Rattle.std.proofs.Common.{◌≡◌, ◌≢◌, ℕ, ◌<◌, ◌≤◌, true, List, [], ◌∷◌, ◌++◌, length, map, ltb, leb, Option, Some, Ok, refl, sym, ◌∙◌, arith}
 use Rattle.std.specs.Prelude.{codes, decimal}
 use Rattle.std.specs.List.{list_all}
 use Rattle.std.proofs.lemmas.Bool.{lt-ltb}
-use Rattle.std.proofs.lemmas.Option.{unwrap_or-slice_get}
 use Rattle.rt_base.specs.Text.{state_word}
 use Rattle.rt_base.specs.declared.call.Call.{Call}
 use Rattle.rt_base.specs.declared.call.Call.TheVariants as calls
@@ -14,16 +13,21 @@ use Rattle.rt_base.specs.declared.kind.Kind.{Kind}
 use Rattle.rt_base.specs.declared.kind.Kind.TheVariants as kinds
 use Rattle.rt_base.specs.declared.state.TaskState.{TaskState}
 use Rattle.rt_base.specs.declared.state.TaskState.TheVariants as states
-use Rattle.rt_base.specs.Script.{Script, TaskLine, LockLine, task_line, lock_line, is_first_cell, IsScript, IsTaskOf, IsLockWithin, IsCellOf, IsLockOf, IsMutex, IsSpin, IsReaderLock, IsLocal, HasReaders, IsCallOf}
-use Rattle.rt_script.specs.declared.keyword.Keyword.TheVariants as keywords
+use Rattle.rt_base.specs.Script.{Script, task_line, lock_line, is_first_cell, IsScript, IsCellOf, IsLockOf, IsMutex, IsSpin, IsReaderLock, IsLocal, HasReaders, IsCallOf}
+use Rattle.rt_script.specs.declared.call_form.CallForm.{CallForm}
+use Rattle.rt_script.specs.declared.call_form.CallForm.TheVariants as forms
 use Rattle.rt_script.specs.declared.verb.Verb.TheVariants as verbs
 use Rattle.rt_script.specs.declared.verb.LockVerb.{LockVerb}
 use Rattle.rt_script.specs.declared.verb.LockVerb.TheVariants as on
 use Rattle.rt_script.specs.Canonical.{on_lock, on_task, call_words}
-use Rattle.rt_script.specs.Grammar.{goes_on, cpu_of, verb_of, reading_call, call_of, call_in}
+use Rattle.rt_script.specs.Calls.{call_form, reading_call, call_on, call_in}
+use Rattle.rt_script.specs.Spelling.{cpu_spelled, verb_spelled}
+use Rattle.rt_script.specs.Limits.{max_cpu, max_cpus, max_prio}
 use Rattle.rt_script.specs.Names.{task_named, lock_named}
 use Rattle.rt_script.specs.Words.{number_upto}
-use Rattle.rt_script.proofs.WrittenWords.{is_word, both, word_of_name, word_of_number, number_read}
+use Rattle.rt_script.proofs.ScriptParts.{task_fits, lock_fits, IsLockOf-to}
+use Rattle.rt_script.proofs.Tests.{both}
+use Rattle.rt_script.proofs.WrittenWords.{is_word, word_of_name, word_of_number, number_read}
 use Rattle.rt_script.proofs.WrittenNames.{name_of, task_is_known, lock_is_known}
 
 -- ---- what is known of a script that is written
@@ -34,53 +38,32 @@ pub record HasAll (p s : Script) : Type 0 where
   pub names : map name_of p.tasks ≡ map name_of s.tasks
   pub locks : p.locks ≡ s.locks
 
-pub task_fits : (s : Script) (t : TaskId) → IsScript s → t.0 < length s.tasks → IsTaskOf s (task_line s t)
-task_fits s t h within =
-    let d : TaskLine = record { name = []; own = 0; cpu = record { 0 = 0 }; calls = [] } in
-    let is : task_line s t ≡ get_or s.tasks t.0 d = unwrap_or-slice_get s.tasks t.0 d in
-    rw is (h.each_task t.0 d within)
-
-lock_fits : (s : Script) (l : LockId) → IsScript s → l.0 < length s.locks → IsLockWithin s.cpus (lock_line s l)
-lock_fits s l h within =
-    let d : LockLine = record { name = []; kind = kinds.Mutex; cell = None } in
-    let is : lock_line s l ≡ get_or s.locks l.0 d = unwrap_or-slice_get s.locks l.0 d in
-    rw is (h.each_lock l.0 d within)
-
--- a script that has only locks
-abbrev only : List LockLine → Script
-only locks = record { cpus = 1; tasks = []; locks = locks; picks = [] }
-
-found : (xs : List LockLine) (i : ℕ) (fits : LockLine → Type 0) → IsLockOf (only xs) fits (record { 0 = i }) → (i < length xs) × fits (lock_line (only xs) (record { 0 = i }))
-found [] i fits h = absurd h
-found (x ∷ xs) zero fits h = (omega arith, h)
-found (x ∷ xs) (suc i) fits h =
-    let k = found xs i fits h in
-    (omega (arith, k.0), k.1)
-
 -- ---- what the words of a call say
 
 pub record Says (p : Script) (words : List (List ℕ)) (call : Call) : Type 0 where
   pub plain : list_all is_word words ≡ true
   pub few : leb (length words) 4 ≡ true
-  pub form : (task : List ℕ) → goes_on true (Some keywords.Call) (task ∷ words) ≡ true
-  pub gives : call_in p words ≡ Ok call
+  pub form : CallForm (List ℕ)
+  pub formed : call_form words ≡ Some form
+  pub gives : call_in p form ≡ Ok call
 
 -- a call on a lock: its word, and what the lock's kind makes of it
 record IsVerb (word : List ℕ) (verb : LockVerb) : Type 0 where
   plain : is_word word ≡ true
-  spelled : verb_of word ≡ Some (verbs.OnLock verb)
+  spelled : verb_spelled word ≡ Some (verbs.OnLock verb)
 
 lock_says : (p s : Script) → IsScript s → HasAll p s → (l : LockId) (word : List ℕ) (verb : LockVerb) (call : Call) → IsVerb word verb → l.0 < length s.locks → is_first_cell (lock_line s l).cell ≡ true
-    → call_of (lock_line s l).kind verb l ≡ Some call → Says p (on_lock s word l) call
+    → call_on (lock_line s l).kind verb l ≡ Some call → Says p (on_lock s word l) call
 lock_says p s h has l word verb call v within first fits =
     let known : lock_named p (lock_line s l).name ≡ Some l = lock_is_known p s h.names l within first has.names has.locks in
     let same : lock_line p l ≡ lock_line s l = rw has.locks refl in
-    let gives : call_of (lock_line p l).kind verb l ≡ Some call = rw same fits in
+    let gives : call_on (lock_line p l).kind verb l ≡ Some call = rw same fits in
     record {
       plain = both _ _ v.plain (both _ _ (word_of_name (lock_line s l).name (lock_fits s l h within).name) refl);
       few = refl;
-      form = λ task. rw v.spelled refl;
-      gives = rw (v.spelled, known, gives) refl;
+      form = forms.OnLock verb (lock_line s l).name;
+      formed = rw v.spelled refl;
+      gives = rw (known, gives) refl;
     }
 
 -- a lock that has no cells is named by itself
@@ -92,21 +75,21 @@ not_local cpus kinds.RwSem cell h other = rw h refl
 not_local cpus kinds.Local cell h other = absurd (other refl)
 
 -- a call on a lock of one kind that has no cells
-kind_says : (p s : Script) → IsScript s → HasAll p s → (l : LockId) (word : List ℕ) (verb : LockVerb) (call : Call) (kind : Kind) → kind ≢ kinds.Local → IsVerb word verb → call_of kind verb l ≡ Some call
+kind_says : (p s : Script) → IsScript s → HasAll p s → (l : LockId) (word : List ℕ) (verb : LockVerb) (call : Call) (kind : Kind) → kind ≢ kinds.Local → IsVerb word verb → call_on kind verb l ≡ Some call
     → IsLockOf s (λ line. line.kind ≡ kind) l → Says p (on_lock s word l) call
 kind_says p s h has l word verb call kind other v fits there =
-    let at = found s.locks l.0 (λ line. line.kind ≡ kind) there in
+    let at = IsLockOf-to s.locks l.0 (λ line. line.kind ≡ kind) there in
     let is : (lock_line s l).kind ≡ kind = at.1 in
     let first : is_first_cell (lock_line s l).cell ≡ true = not_local s.cpus (lock_line s l).kind (lock_line s l).cell (lock_fits s l h at.0).cell (λ e. other (sym is ∙ e)) in
     lock_says p s h has l word verb call v at.0 first (rw is fits)
 
-mutex_says : (p s : Script) → IsScript s → HasAll p s → (l : LockId) (word : List ℕ) (verb : LockVerb) (call : Call) → IsVerb word verb → call_of kinds.Mutex verb l ≡ Some call → IsLockOf s IsMutex l → Says p (on_lock s word l) call
+mutex_says : (p s : Script) → IsScript s → HasAll p s → (l : LockId) (word : List ℕ) (verb : LockVerb) (call : Call) → IsVerb word verb → call_on kinds.Mutex verb l ≡ Some call → IsLockOf s IsMutex l → Says p (on_lock s word l) call
 mutex_says p s h has l word verb call v fits there = kind_says p s h has l word verb call kinds.Mutex (λ e. absurd cc) v fits there
 
-spin_says : (p s : Script) → IsScript s → HasAll p s → (l : LockId) (word : List ℕ) (verb : LockVerb) (call : Call) → IsVerb word verb → call_of kinds.Spin verb l ≡ Some call → IsLockOf s IsSpin l → Says p (on_lock s word l) call
+spin_says : (p s : Script) → IsScript s → HasAll p s → (l : LockId) (word : List ℕ) (verb : LockVerb) (call : Call) → IsVerb word verb → call_on kinds.Spin verb l ≡ Some call → IsLockOf s IsSpin l → Says p (on_lock s word l) call
 spin_says p s h has l word verb call v fits there = kind_says p s h has l word verb call kinds.Spin (λ e. absurd cc) v fits there
 
-with_readers : (kind : Kind) (verb : LockVerb) (l : LockId) (call : Call) → HasReaders kind → reading_call verb l ≡ Some call → (kind ≢ kinds.Local) × (call_of kind verb l ≡ Some call)
+with_readers : (kind : Kind) (verb : LockVerb) (l : LockId) (call : Call) → HasReaders kind → reading_call verb l ≡ Some call → (kind ≢ kinds.Local) × (call_on kind verb l ≡ Some call)
 with_readers kinds.RwLock verb l call h e = (λ k. absurd cc, e)
 with_readers kinds.RwSem verb l call h e = (λ k. absurd cc, e)
 with_readers kinds.Mutex verb l call h e = absurd h
@@ -115,59 +98,60 @@ with_readers kinds.Local verb l call h e = absurd h
 
 reader_says : (p s : Script) → IsScript s → HasAll p s → (l : LockId) (word : List ℕ) (verb : LockVerb) (call : Call) → IsVerb word verb → reading_call verb l ≡ Some call → IsLockOf s IsReaderLock l → Says p (on_lock s word l) call
 reader_says p s h has l word verb call v fits there =
-    let at = found s.locks l.0 IsReaderLock there in
+    let at = IsLockOf-to s.locks l.0 IsReaderLock there in
     let kind = with_readers (lock_line s l).kind verb l call at.1 fits in
     lock_says p s h has l word verb call v at.0 (not_local s.cpus (lock_line s l).kind (lock_line s l).cell (lock_fits s l h at.0).cell kind.0) kind.1
 
-local_says : (p s : Script) → IsScript s → HasAll p s → (l : LockId) (word : List ℕ) (verb : LockVerb) (call : Call) → IsVerb word verb → call_of kinds.Local verb l ≡ Some call → IsLockOf s IsLocal l → Says p (on_lock s word l) call
+local_says : (p s : Script) → IsScript s → HasAll p s → (l : LockId) (word : List ℕ) (verb : LockVerb) (call : Call) → IsVerb word verb → call_on kinds.Local verb l ≡ Some call → IsLockOf s IsLocal l → Says p (on_lock s word l) call
 local_says p s h has l word verb call v fits there =
-    let at = found s.locks l.0 IsLocal there in
+    let at = IsLockOf-to s.locks l.0 IsLocal there in
     lock_says p s h has l word verb call v at.0 (rw at.1.1 refl) (rw at.1.0 fits)
 
 -- ---- other calls
 
 state_says : (p : Script) (state : TaskState) → state ≢ states.LockWait → Says p (codes "state" ∷ state_word state ∷ []) (calls.State state)
-state_says p states.Running h = record { plain = refl; few = refl; form = λ task. refl; gives = refl }
-state_says p states.Interruptible h = record { plain = refl; few = refl; form = λ task. refl; gives = refl }
-state_says p states.Uninterruptible h = record { plain = refl; few = refl; form = λ task. refl; gives = refl }
+state_says p states.Running h = record { plain = refl; few = refl; form = forms.State states.Running; formed = refl; gives = refl }
+state_says p states.Interruptible h = record { plain = refl; few = refl; form = forms.State states.Interruptible; formed = refl; gives = refl }
+state_says p states.Uninterruptible h = record { plain = refl; few = refl; form = forms.State states.Uninterruptible; formed = refl; gives = refl }
 state_says p states.LockWait h = absurd (h refl)
 
 named_word : (s : Script) (t : TaskId) → IsScript s → t.0 < length s.tasks → is_word (task_line s t).name ≡ true
 named_word s t h within = word_of_name (task_line s t).name (task_fits s t h within).name
 
 -- a call that names a task alone
-task_says : (p s : Script) → IsScript s → HasAll p s → (t : TaskId) (word : List ℕ) (call : Call) → is_word word ≡ true → t.0 < length s.tasks
-    → ((task : List ℕ) → goes_on true (Some keywords.Call) (task ∷ on_task s word t) ≡ true) → (task_named p (task_line s t).name ≡ Some t → call_in p (on_task s word t) ≡ Ok call) → Says p (on_task s word t) call
-task_says p s h has t word call plain within form gives =
-    record { plain = both _ _ plain (both _ _ (named_word s t h within) refl); few = refl; form = form; gives = gives (task_is_known p s h.names t within has.names) }
+task_says : (p s : Script) → IsScript s → HasAll p s → (t : TaskId) (word : List ℕ) (form : CallForm (List ℕ)) (call : Call) → is_word word ≡ true → t.0 < length s.tasks
+    → call_form (on_task s word t) ≡ Some form → (task_named p (task_line s t).name ≡ Some t → call_in p form ≡ Ok call) → Says p (on_task s word t) call
+task_says p s h has t word form call plain within formed gives =
+    record { plain = both _ _ plain (both _ _ (named_word s t h within) refl); few = refl; form = form; formed = formed; gives = gives (task_is_known p s h.names t within has.names) }
 
 wake_says : (p s : Script) → IsScript s → HasAll p s → (t : TaskId) → t.0 < length s.tasks → Says p (on_task s (codes "wake") t) (calls.Wake t)
-wake_says p s h has t within = task_says p s h has t (codes "wake") (calls.Wake t) refl within (λ task. refl) (λ known. rw known refl)
+wake_says p s h has t within = task_says p s h has t (codes "wake") (forms.Wake (task_line s t).name) (calls.Wake t) refl within refl (λ known. rw known refl)
 
 signal_says : (p s : Script) → IsScript s → HasAll p s → (t : TaskId) → t.0 < length s.tasks → Says p (on_task s (codes "signal") t) (calls.Signal t)
-signal_says p s h has t within = task_says p s h has t (codes "signal") (calls.Signal t) refl within (λ task. refl) (λ known. rw known refl)
+signal_says p s h has t within = task_says p s h has t (codes "signal") (forms.Signal (task_line s t).name) (calls.Signal t) refl within refl (λ known. rw known refl)
 
-prio_says : (p s : Script) → IsScript s → HasAll p s → (t : TaskId) (prio : ℕ) → t.0 < length s.tasks → prio ≤ 139 → Says p (on_task s (codes "setprio") t ++ decimal prio ∷ []) (calls.SetPrio t prio)
+prio_says : (p s : Script) → IsScript s → HasAll p s → (t : TaskId) (prio : ℕ) → t.0 < length s.tasks → prio ≤ max_prio → Says p (on_task s (codes "setprio") t ++ decimal prio ∷ []) (calls.SetPrio t prio)
 prio_says p s h has t prio within small =
     let known : task_named p (task_line s t).name ≡ Some t = task_is_known p s h.names t within has.names in
-    let number : number_upto 139 (decimal prio) ≡ Some prio = number_read 139 prio small (omega arith) in
+    let number : number_upto max_prio (decimal prio) ≡ Some prio = number_read max_prio prio small (omega arith) in
     record {
       plain = both _ _ refl (both _ _ (named_word s t h within) (both _ _ (word_of_number prio (omega arith)) refl));
       few = refl;
-      form = λ task. refl;
+      form = forms.SetPrio (task_line s t).name (decimal prio);
+      formed = refl;
       gives = rw (known, number) refl;
     }
 
-pub cpu_read : (p : Script) (cpu : Cpu) → cpu.0 < p.cpus → p.cpus ≤ 8 → cpu_of p (decimal cpu.0) ≡ Some cpu
+pub cpu_read : (p : Script) (cpu : Cpu) → cpu.0 < p.cpus → p.cpus ≤ max_cpus → cpu_spelled p (decimal cpu.0) ≡ Some cpu
 cpu_read p cpu within few =
-    let number : number_upto 7 (decimal cpu.0) ≡ Some cpu.0 = number_read 7 cpu.0 (omega arith) (omega arith) in
+    let number : number_upto max_cpu (decimal cpu.0) ≡ Some cpu.0 = number_read max_cpu cpu.0 (omega arith) (omega arith) in
     let below : ltb cpu.0 p.cpus ≡ true = lt-ltb cpu.0 p.cpus within in
     rw (number, below) refl
 
 move_says : (p s : Script) → IsScript s → HasAll p s → (cpu : Cpu) → cpu.0 < s.cpus → Says p (codes "move" ∷ decimal cpu.0 ∷ []) (calls.Move cpu)
 move_says p s h has cpu within =
-    let is : cpu_of p (decimal cpu.0) ≡ Some cpu = cpu_read p cpu (rw has.cpus within) (rw has.cpus h.cpus.1) in
-    record { plain = both _ _ refl (both _ _ (word_of_number cpu.0 (omega (arith, h.cpus.1))) refl); few = refl; form = λ task. refl; gives = rw is refl }
+    let is : cpu_spelled p (decimal cpu.0) ≡ Some cpu = cpu_read p cpu (rw has.cpus within) (rw has.cpus h.cpus.1) in
+    record { plain = both _ _ refl (both _ _ (word_of_number cpu.0 (omega (arith, h.cpus.1))) refl); few = refl; form = forms.Move (decimal cpu.0); formed = refl; gives = rw is refl }
 
 -- ---- each call
 
@@ -189,7 +173,7 @@ call_says p s h has (calls.Downgrade l) fits = reader_says p s h has l (codes "d
 call_says p s h has (calls.Local l) fits = local_says p s h has l (codes "local") on.Local (calls.Local l) (record { plain = refl; spelled = refl }) refl fits
 call_says p s h has (calls.Unlocal l) fits = local_says p s h has l (codes "unlocal") on.Unlocal (calls.Unlocal l) (record { plain = refl; spelled = refl }) refl fits
 call_says p s h has (calls.State state) fits = state_says p state fits
-call_says p s h has calls.Schedule fits = record { plain = refl; few = refl; form = λ task. refl; gives = refl }
+call_says p s h has calls.Schedule fits = record { plain = refl; few = refl; form = forms.Schedule; formed = refl; gives = refl }
 call_says p s h has (calls.Wake t) fits = wake_says p s h has t fits
 call_says p s h has (calls.Signal t) fits = signal_says p s h has t fits
 call_says p s h has (calls.SetPrio t prio) fits = prio_says p s h has t prio fits.0 fits.1

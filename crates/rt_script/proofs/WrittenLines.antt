@@ -1,15 +1,16 @@
 -- Lines that are written are read one by one.
-use Rattle.std.proofs.Common.{◌≡◌, ℕ, ◌+◌, Bool, true, false, List, [], ◌∷◌, ◌++◌, flat_map, All, Ok, refl, sym, ap, subst, ◌∙◌, arith, append-nil, append_assoc}
+use Rattle.std.proofs.Common.{◌≡◌, ℕ, ◌+◌, true, false, List, [], ◌∷◌, ◌++◌, flat_map, All, Ok, refl, sym, ap, subst, ◌∙◌, arith, append-nil, append_assoc}
 use Rattle.std.specs.Prelude.{◌==◌, codes, bytes_eq}
 use Rattle.std.specs.List.{list_all}
 use Rattle.std.proofs.lemmas.Bool.Decides.{nat_tests}
 use Rattle.std.proofs.lemmas.List.Splits.{slice_split_at}
-use Rattle.std.proofs.lemmas.List.Elements.{All-nil, All-cons}
 use Rattle.rt_base.specs.Script.{Script}
 use Rattle.rt_script.specs.Canonical.{with_line_feed}
-use Rattle.rt_script.specs.Grammar.{SoFar, has_form, begins, after_words, after_line, after_lines, is_end}
-use Rattle.rt_script.specs.Words.{lines_of, is_printable, is_passed_over}
-use Rattle.rt_script.proofs.WrittenWords.{left, right, both, is_word, line_of, words_of-line, printable_line, filled}
+use Rattle.rt_script.specs.Grammar.{after_lines, is_end}
+use Rattle.rt_script.specs.Lines.{SoFar, are_words, after_words, after_line}
+use Rattle.rt_script.specs.Words.{text_lines, is_printable, is_passed_over}
+use Rattle.rt_script.proofs.Tests.{left, right}
+use Rattle.rt_script.proofs.WrittenWords.{all_other, is_word, line_of, words_of-line, printable_line, no_empty_word}
 
 -- ---- the lines of a text
 
@@ -17,14 +18,13 @@ no_line_feed : (b : ℕ) → is_printable b ≡ true → (b == 10) ≡ false
 no_line_feed b e = grind (arith, nat_tests)
 
 one_line : (line : List ℕ) → list_all is_printable line ≡ true → All (λ b. (b == 10) ≡ false) line
-one_line [] e = All-nil (λ b. (b == 10) ≡ false)
-one_line (b ∷ bs) e = All-cons (λ c. (c == 10) ≡ false) b bs (no_line_feed b (left _ _ e)) (one_line bs (right _ _ e))
+one_line line e = all_other is_printable 10 no_line_feed line e
 
-pub lines_of-lines : (lines : List (List ℕ)) → list_all (list_all is_printable) lines ≡ true → lines_of (flat_map with_line_feed lines) ≡ lines ++ [] ∷ []
-lines_of-lines [] e = refl
-lines_of-lines (l ∷ ls) e =
+pub text_lines-lines : (lines : List (List ℕ)) → list_all (list_all is_printable) lines ≡ true → text_lines (flat_map with_line_feed lines) ≡ lines ++ [] ∷ []
+text_lines-lines [] e = refl
+text_lines-lines (l ∷ ls) e =
     rw (append_assoc l (10 ∷ []) (flat_map with_line_feed ls)) (
-    slice_split_at (λ b. b == 10) l 10 (flat_map with_line_feed ls) (one_line l (left _ _ e)) refl ∙ ap (λ rest. l ∷ rest) (lines_of-lines ls (right _ _ e))
+    slice_split_at (λ b. b == 10) l 10 (flat_map with_line_feed ls) (one_line l (left _ _ e)) refl ∙ ap (λ rest. l ∷ rest) (text_lines-lines ls (right _ _ e))
     )
 
 -- ---- lines, one after the other
@@ -60,20 +60,19 @@ reads_each {X} all at f step = from [] all refl
 -- ---- one line of words
 
 -- what a line has to be for it to be read, besides what its words make
-pub record IsRead (begun : Bool) (first : List ℕ) (words : List (List ℕ)) : Type 0 where
+pub record IsRead (first : List ℕ) (words : List (List ℕ)) : Type 0 where
   pub plain : list_all is_word (first ∷ words) ≡ true
   pub kept : is_passed_over (line_of first words) ≡ false
   pub not_go : bytes_eq (line_of first words) (codes "go") ≡ false
   pub not_end : (rest : List (List ℕ)) → is_end (line_of first words ∷ rest) ≡ false
-  pub form : begins begun (first ∷ words) ≡ true
 
-line_read : (a : SoFar) (b : Script) (first : List ℕ) (words : List (List ℕ)) → IsRead a.begun first words → after_words a.script (first ∷ words) ≡ Ok b → after_line a (line_of first words) ≡ Ok (record { script = b; begun = true })
+line_read : (a : SoFar) (b : Script) (first : List ℕ) (words : List (List ℕ)) → IsRead first words → after_words a (first ∷ words) ≡ Ok b → after_line a (line_of first words) ≡ Ok (record { script = b; begun = true })
 unfolding after_line
 line_read a b first words h e =
-    let form : has_form a.begun (first ∷ words) ≡ true = both _ _ (filled (first ∷ words) h.plain) h.form in
-    rw (printable_line first words h.plain, h.kept, words_of-line first words h.plain, form, e) refl
+    let words_fit : are_words (first ∷ words) ≡ true = no_empty_word (first ∷ words) h.plain in
+    rw (printable_line first words h.plain, h.kept, words_of-line first words h.plain, words_fit, e) refl
 
-pub reads_line : (a : SoFar) (b : Script) (first : List ℕ) (words : List (List ℕ)) → IsRead a.begun first words → after_words a.script (first ∷ words) ≡ Ok b → Reads a (line_of first words ∷ []) (record { script = b; begun = true })
+pub reads_line : (a : SoFar) (b : Script) (first : List ℕ) (words : List (List ℕ)) → IsRead first words → after_words a (first ∷ words) ≡ Ok b → Reads a (line_of first words ∷ []) (record { script = b; begun = true })
 unfolding Reads after_lines
 reads_line a b first words h e n rest =
     let line : List ℕ = line_of first words in

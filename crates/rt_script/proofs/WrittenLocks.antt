@@ -1,5 +1,5 @@
 -- The locks that lines make, and the lines that such locks are written as.
-use Rattle.std.proofs.Common.{◌≡◌, ℕ, zero, suc, ◌≤◌, Bool, true, List, [], ◌∷◌, ◌++◌, map, filter, flat_map, Some, None, refl, ap, ◌∙◌, arith}
+use Rattle.std.proofs.Common.{◌≡◌, ℕ, zero, suc, ◌≤◌, Bool, true, List, [], ◌∷◌, ◌++◌, map, filter, flat_map, refl, ap, ◌∙◌, arith}
 use Rattle.std.specs.Prelude.{codes}
 use Rattle.std.proofs.lemmas.List.Elements.{filter-append}
 use Rattle.std.proofs.lemmas.Bool.{ne_eqb}
@@ -7,13 +7,14 @@ use Rattle.rt_base.specs.Text.{spaced}
 use Rattle.rt_base.specs.declared.kind.Kind.{Kind}
 use Rattle.rt_base.specs.declared.kind.Kind.TheVariants as kinds
 use Rattle.rt_base.specs.Script.{LockLine, is_first_cell, cells_of, locks_of, locks_of_lines}
-use Rattle.rt_script.specs.Canonical.{kind_word, lock_text}
+use Rattle.rt_script.proofs.Cells.{cell_at, lone}
+use Rattle.rt_script.specs.Canonical.{lock_kind_word, lock_text}
 
 -- the test for locks that have a line of their own
 abbrev pub has_line : LockLine → Bool
 has_line l = is_first_cell l.cell
 
--- the locks of a line: the first, which is written, and those behind it, which aren't
+-- the locks of a line: the first, which is written, and those after it, which aren't
 pub record Starts (locks : List LockLine) (name : List ℕ) (kind : Kind) : Type 0 where
   pub first : LockLine
   pub others : List LockLine
@@ -22,9 +23,6 @@ pub record Starts (locks : List LockLine) (name : List ℕ) (kind : Kind) : Type
   pub cell : is_first_cell first.cell ≡ true
   pub name_is : first.name ≡ name
   pub kind_is : first.kind ≡ kind
-
-abbrev cell_at : List ℕ → ℕ → LockLine
-cell_at name n = record { name = name; kind = kinds.Local; cell = Some (record { 0 = n }) }
 
 cells_start : (name : List ℕ) (n : ℕ) → (others : List LockLine) × (cells_of name (suc n) ≡ cell_at name 0 ∷ others)
 cells_start name zero = ([], refl)
@@ -45,8 +43,8 @@ cells (suc n) name some =
     let start = cells_start name n in
     record { first = cell_at name 0; others = start.0; whole = start.1; lined = cells_lined name n; cell = refl; name_is = refl; kind_is = refl }
 
-alone : (name : List ℕ) (kind : Kind) → Starts (record { name = name; kind = kind; cell = None } ∷ []) name kind
-alone name kind = record { first = record { name = name; kind = kind; cell = None }; others = []; whole = refl; lined = refl; cell = refl; name_is = refl; kind_is = refl }
+alone : (name : List ℕ) (kind : Kind) → Starts (lone name kind ∷ []) name kind
+alone name kind = record { first = lone name kind; others = []; whole = refl; lined = refl; cell = refl; name_is = refl; kind_is = refl }
 
 pub starts : (cpus : ℕ) (name : List ℕ) (kind : Kind) → 1 ≤ cpus → Starts (locks_of cpus name kind) name kind
 starts cpus name kinds.Local some = cells cpus name some
@@ -59,7 +57,7 @@ starts cpus name kinds.RwSem some = alone name kinds.RwSem
 
 -- a lock line of a name and a kind
 abbrev pub line_text : List ℕ × Kind → List ℕ
-line_text line = codes "lock" ++ spaced (line.0 ∷ kind_word line.1 ∷ [])
+line_text line = codes "lock" ++ spaced (line.0 ∷ lock_kind_word line.1 ∷ [])
 
 pub written_locks : (cpus : ℕ) (lines : List (List ℕ × Kind)) → 1 ≤ cpus → map lock_text (filter has_line (locks_of_lines cpus lines)) ≡ flat_map (λ line. line_text line ∷ []) lines
 written_locks cpus [] some = refl

@@ -1,5 +1,5 @@
 -- How long a written script is.
-use Rattle.std.proofs.Common.{◌≡◌, ℕ, ◌*◌, ◌<◌, ◌≤◌, Bool, true, ◌&&◌, List, [], ◌∷◌, ◌++◌, length, map, filter, flat_map, leb, All, refl, ◌∙◌, arith, length-append}
+use Rattle.std.proofs.Common.{◌≡◌, ℕ, ◌+◌, ◌*◌, ◌<◌, ◌≤◌, Bool, true, ◌&&◌, List, [], ◌∷◌, ◌++◌, length, map, filter, flat_map, leb, All, refl, ◌∙◌, arith, length-append}
 use Rattle.std.specs.Prelude.{codes, decimal, sum_by}
 use Rattle.std.specs.List.{list_all}
 use Rattle.std.proofs.lemmas.Bool.{le-leb, leb-true}
@@ -10,18 +10,28 @@ use Rattle.std.proofs.lemmas.List.Sums.{sum-map, sum_by-cons, length-filter, cou
 use Rattle.rt_base.specs.declared.call.Call.{Call}
 use Rattle.rt_base.specs.declared.id.TaskId.{TaskId}
 use Rattle.rt_base.specs.Script.{Script, TaskLine, LockLine, task_line, IsScript, IsTaskOf, IsLockWithin, IsCallOf}
-use Rattle.rt_script.specs.Canonical.{kind_word, call_words, cpus_text, task_text, lock_text, call_text, calls_text, pick_text, lined_locks, with_line_feed, canonical_lines, canonical}
+use Rattle.rt_script.specs.Canonical.{lock_kind_word, call_words, cpus_text, task_text, lock_text, call_text, calls_text, pick_text, lined_locks, with_line_feed, canonical_lines, canonical}
+use Rattle.rt_script.specs.Limits.{max_cpus, text_limit}
 use Rattle.rt_script.specs.Words.{is_printable}
-use Rattle.rt_script.proofs.WrittenWords.{left, right, both, is_word, line_of, printable_line, length_line}
+use Rattle.rt_script.proofs.ScriptParts.{task_fits}
+use Rattle.rt_script.proofs.Tests.{left, right, both}
+use Rattle.rt_script.proofs.WrittenWords.{is_word, line_of, printable_line, length_line}
 use Rattle.rt_script.proofs.WrittenPlain.{cpus_plain, task_plain, lock_plain, call_plain, pick_plain}
-use Rattle.rt_script.proofs.WrittenCalls.{Says, task_fits, call_says}
+use Rattle.rt_script.proofs.WrittenCalls.{Says, call_says}
 use Rattle.rt_script.proofs.WrittenLocks.{has_line}
 
 -- ---- lists of lines
 
--- a line of printable characters, of at most 101
+-- the most characters of a line, one of six words, and the most lines
+abbrev longest_line : ℕ
+longest_line = 101
+
+abbrev most_lines : ℕ
+most_lines = 82243
+
+-- a line of printable characters, of which there are few enough
 abbrev pub is_line : List ℕ → Bool
-is_line line = list_all is_printable line && leb (length line) 101
+is_line line = list_all is_printable line && leb (length line) longest_line
 
 every_mapped : {X Y : Type 0} (P : X → Type 0) (p : Y → Bool) (f : X → Y) (xs : List X) → ((x : X) → P x → p (f x) ≡ true) → All P xs → list_all p (map f xs) ≡ true
 every_mapped P p f [] h all = refl
@@ -37,16 +47,16 @@ joined p xs ys e f = list_all-append p xs ys ∙ both _ _ e f
 -- ---- each line
 
 of_words : (first : List ℕ) (words : List (List ℕ)) → list_all is_word (first ∷ words) ≡ true → length words ≤ 5 → is_line (line_of first words) ≡ true
-of_words first words e few = both _ _ (printable_line first words e) (le-leb (length (line_of first words)) 101 (omega (arith, length_line first words e)))
+of_words first words e few = both _ _ (printable_line first words e) (le-leb (length (line_of first words)) longest_line (omega (arith, length_line first words e)))
 
-cpus_line : (cpus : ℕ) → cpus ≤ 8 → is_line (cpus_text cpus) ≡ true
+cpus_line : (cpus : ℕ) → cpus ≤ max_cpus → is_line (cpus_text cpus) ≡ true
 cpus_line cpus few = of_words (codes "cpus") (decimal cpus ∷ []) (cpus_plain cpus few) (omega arith)
 
-task_line_fits : (s : Script) → s.cpus ≤ 8 → (t : TaskLine) → IsTaskOf s t → is_line (task_text t) ≡ true
+task_line_fits : (s : Script) → s.cpus ≤ max_cpus → (t : TaskLine) → IsTaskOf s t → is_line (task_text t) ≡ true
 task_line_fits s few t fits = of_words (codes "task") (t.name ∷ decimal t.own ∷ decimal t.cpu.0 ∷ []) (task_plain s t fits few) (omega arith)
 
 lock_line_fits : (cpus : ℕ) (l : LockLine) → IsLockWithin cpus l → is_line (lock_text l) ≡ true
-lock_line_fits cpus l fits = of_words (codes "lock") (l.name ∷ kind_word l.kind ∷ []) (lock_plain l.name l.kind fits.name) (omega arith)
+lock_line_fits cpus l fits = of_words (codes "lock") (l.name ∷ lock_kind_word l.kind ∷ []) (lock_plain l.name l.kind fits.name) (omega arith)
 
 call_line_fits : (s : Script) → IsScript s → (t : TaskLine) → IsTaskOf s t → (call : Call) → IsCallOf s call → is_line (call_text s t call) ≡ true
 call_line_fits s h t fits call is =
@@ -76,10 +86,10 @@ pub printable_lines : (lines : List (List ℕ)) → list_all is_line lines ≡ t
 printable_lines [] e = refl
 printable_lines (l ∷ ls) e = both _ _ (left _ _ (left _ _ e)) (printable_lines ls (right _ _ e))
 
-text_fits : (lines : List (List ℕ)) → list_all is_line lines ≡ true → length (flat_map with_line_feed lines) ≤ 102 * length lines
+text_fits : (lines : List (List ℕ)) → list_all is_line lines ≡ true → length (flat_map with_line_feed lines) ≤ (longest_line + 1) * length lines
 text_fits [] e = omega arith
 text_fits (l ∷ ls) e =
-    omega (arith, leb-true (length l) 101 (right _ _ (left _ _ e)), text_fits ls (right _ _ e), length-append l (10 ∷ []), length-append (with_line_feed l) (flat_map with_line_feed ls))
+    omega (arith, leb-true (length l) longest_line (right _ _ (left _ _ e)), text_fits ls (right _ _ e), length-append l (10 ∷ []), length-append (with_line_feed l) (flat_map with_line_feed ls))
 
 filtered : {X : Type 0} (p : X → Bool) (xs : List X) → length (filter p xs) ≤ length xs
 filtered p xs = omega (arith, length-filter p xs, count_by-le-length p xs)
@@ -88,7 +98,7 @@ calls_counted : (s : Script) (ts : List TaskLine) → length (flat_map (calls_te
 calls_counted s [] = refl
 calls_counted s (t ∷ ts) = omega (arith, length-append (calls_text s t) (flat_map (calls_text s) ts), length-map t.calls (call_text s t), calls_counted s ts, sum_by-cons (λ (t : TaskLine). length t.calls) t ts)
 
-few_lines : (s : Script) → IsScript s → length (canonical_lines s) ≤ 82243
+few_lines : (s : Script) → IsScript s → length (canonical_lines s) ≤ most_lines
 few_lines s h =
     let head : List (List ℕ) = codes "rtscript 1" ∷ cpus_text s.cpus ∷ map task_text s.tasks in
     let locks : List (List ℕ) = map lock_text (lined_locks s) in
@@ -112,5 +122,5 @@ few_lines s h =
       h.picks,
     )
 
-pub short : (s : Script) → IsScript s → length (canonical s) < 4294967295
+pub short : (s : Script) → IsScript s → length (canonical s) < text_limit
 short s h = omega (arith, text_fits (canonical_lines s) (lines_fit s h), few_lines s h)

@@ -1,10 +1,9 @@
 -- The lines of each part of a written script lead to the script with that part.
-use Rattle.std.proofs.Common.{◌≡◌, ℕ, ◌+◌, ◌<◌, ◌≤◌, true, false, List, [], ◌∷◌, ◌++◌, length, map, flat_map, get_or, ltb, leb, All, Some, None, Ok, refl, sym, ap, subst, ◌∙◌, arith, append-nil, append_assoc, length-append}
+use Rattle.std.proofs.Common.{◌≡◌, ℕ, ◌+◌, ◌<◌, ◌≤◌, true, false, List, [], ◌∷◌, ◌++◌, length, map, flat_map, ltb, leb, All, Some, None, Ok, refl, sym, ap, subst, ◌∙◌, arith, append-nil, append_assoc, length-append}
 use Rattle.std.specs.Prelude.{codes, decimal, sum_by}
 use Rattle.std.proofs.lemmas.Bool.{lt-ltb, le-leb}
 use Rattle.std.proofs.lemmas.Grind.{flat_map-append}
 use Rattle.std.proofs.lemmas.List.{map-append, length-map}
-use Rattle.std.proofs.lemmas.Option.{unwrap_or-slice_get}
 use Rattle.std.proofs.lemmas.List.Sums.{sum-map, sum_by-append, sum_by-cons}
 use Rattle.std.proofs.Math.Seq.{set-append_seam, get_or-append_seam}
 use Rattle.std.proofs.lemmas.List.Concat.{flat_map_single}
@@ -13,18 +12,20 @@ use Rattle.rt_base.specs.declared.call.Call.{Call}
 use Rattle.rt_base.specs.declared.id.TaskId.{TaskId}
 use Rattle.rt_base.specs.declared.kind.Kind.{Kind}
 use Rattle.rt_base.specs.declared.kind.Kind.TheVariants as kinds
-use Rattle.rt_base.specs.Script.{Script, TaskLine, LockLine, task_line, lock_line, all_calls, locks_of, locks_of_lines, IsScript, IsTaskOf, IsLockWithin, IsCallOf}
-use Rattle.rt_script.specs.declared.keyword.Keyword.TheVariants as keywords
-use Rattle.rt_script.specs.Adding.{no_lines, with_task, with_locks, with_call, with_pick}
-use Rattle.rt_script.specs.Canonical.{kind_word, call_words, cpus_text, task_text, call_text, pick_text, calls_text}
-use Rattle.rt_script.specs.Grammar.{SoFar, cpu_of, kind_of, goes_on, call_in, after_cpus, after_task, after_lock, after_call, after_pick}
+use Rattle.rt_base.specs.Script.{Script, TaskLine, LockLine, task_line, all_calls, locks_of, locks_of_lines, IsScript, IsTaskOf, IsLockWithin, IsCallOf}
+use Rattle.rt_script.specs.Adding.{empty_script, with_task, with_locks, with_call, with_pick}
+use Rattle.rt_script.specs.Canonical.{lock_kind_word, call_words, cpus_text, task_text, call_text, pick_text, calls_text}
+use Rattle.rt_script.specs.Limits.{max_calls, max_cpus, max_locks, max_picks, max_prio, max_tasks}
+use Rattle.rt_script.specs.Lines.{SoFar, after_cpus_line, after_task_line, after_lock_line, after_call_line, after_pick_line}
+use Rattle.rt_script.specs.Spelling.{cpu_spelled, kind_spelled}
 use Rattle.rt_script.specs.Names.{named, task_named}
 use Rattle.rt_script.specs.Words.{number_upto}
+use Rattle.rt_script.proofs.ScriptParts.{task_fits, lock_fits}
 use Rattle.rt_script.proofs.WrittenWords.{number_read}
 use Rattle.rt_script.proofs.WrittenPlain.{cpus_plain, task_plain, lock_plain, call_plain, pick_plain}
 use Rattle.rt_script.proofs.WrittenLines.{Reads, reads_line, reads_each}
 use Rattle.rt_script.proofs.WrittenNames.{name_of, uncalled, uncalled-names, length-middle, the_task_line, the_lock_line, task_is_new, lock_is_new, task_is_known}
-use Rattle.rt_script.proofs.WrittenCalls.{HasAll, Says, task_fits, call_says, cpu_read}
+use Rattle.rt_script.proofs.WrittenCalls.{HasAll, Says, call_says, cpu_read}
 use Rattle.rt_script.proofs.WrittenLocks.{line_text, starts}
 
 -- lines have begun, and made this
@@ -37,16 +38,16 @@ begun script = record { script = script; begun = true }
 abbrev pub empty : ℕ → Script
 empty cpus = record { cpus = cpus; tasks = []; locks = []; picks = [] }
 
-cpus_made : (cpus : ℕ) → 1 ≤ cpus → cpus ≤ 8 → after_cpus no_lines (decimal cpus ∷ []) ≡ Ok (empty cpus)
-unfolding after_cpus
+cpus_made : (cpus : ℕ) → 1 ≤ cpus → cpus ≤ max_cpus → after_cpus_line (record { script = empty_script; begun = false }) (decimal cpus ∷ []) ≡ Ok (empty cpus)
+unfolding after_cpus_line
 cpus_made cpus some few =
-    let number : number_upto 8 (decimal cpus) ≡ Some cpus = number_read 8 cpus few (omega arith) in
+    let number : number_upto max_cpus (decimal cpus) ≡ Some cpus = number_read max_cpus cpus few (omega arith) in
     let positive : ltb 0 cpus ≡ true = lt-ltb 0 cpus some in
     rw (number, positive) refl
 
-pub reads_cpus : (s : Script) → IsScript s → Reads (record { script = no_lines; begun = false }) (cpus_text s.cpus ∷ []) (begun (empty s.cpus))
-reads_cpus s h = reads_line (record { script = no_lines; begun = false }) (empty s.cpus) (codes "cpus") (decimal s.cpus ∷ [])
-    (record { plain = cpus_plain s.cpus h.cpus.1; kept = refl; not_go = refl; not_end = λ rest. refl; form = refl })
+pub reads_cpus : (s : Script) → IsScript s → Reads (record { script = empty_script; begun = false }) (cpus_text s.cpus ∷ []) (begun (empty s.cpus))
+reads_cpus s h = reads_line (record { script = empty_script; begun = false }) (empty s.cpus) (codes "cpus") (decimal s.cpus ∷ [])
+    (record { plain = cpus_plain s.cpus h.cpus.1; kept = refl; not_go = refl; not_end = λ rest. refl })
     (cpus_made s.cpus h.cpus.0 h.cpus.1)
 
 -- ---- tasks
@@ -55,13 +56,13 @@ reads_cpus s h = reads_line (record { script = no_lines; begun = false }) (empty
 abbrev pub of_tasks : Script → List TaskLine → Script
 of_tasks s front = record { cpus = s.cpus; tasks = map uncalled front; locks = []; picks = [] }
 
-task_made : (p : Script) (x : TaskLine) → is_name x.name ≡ true → x.own ≤ 139 → x.cpu.0 < p.cpus → p.cpus ≤ 8 → named p x.name ≡ None → length p.tasks < 64
-    → after_task p (x.name ∷ decimal x.own ∷ decimal x.cpu.0 ∷ []) ≡ Ok (with_task p (uncalled x))
-unfolding after_task
+task_made : (p : Script) (x : TaskLine) → is_name x.name ≡ true → x.own ≤ max_prio → x.cpu.0 < p.cpus → p.cpus ≤ max_cpus → named p x.name ≡ None → length p.tasks < max_tasks
+    → after_task_line p (x.name ∷ decimal x.own ∷ decimal x.cpu.0 ∷ []) ≡ Ok (with_task p (uncalled x))
+unfolding after_task_line
 task_made p x shape small on few new room =
-    let number : number_upto 139 (decimal x.own) ≡ Some x.own = number_read 139 x.own small (omega arith) in
-    let cpu : cpu_of p (decimal x.cpu.0) ≡ Some x.cpu = cpu_read p x.cpu on few in
-    let within : ltb (length p.tasks) 64 ≡ true = lt-ltb (length p.tasks) 64 room in
+    let number : number_upto max_prio (decimal x.own) ≡ Some x.own = number_read max_prio x.own small (omega arith) in
+    let cpu : cpu_spelled p (decimal x.cpu.0) ≡ Some x.cpu = cpu_read p x.cpu on few in
+    let within : ltb (length p.tasks) max_tasks ≡ true = lt-ltb (length p.tasks) max_tasks room in
     rw (shape, new, number, cpu, within) refl
 
 middle_task : (s : Script) → IsScript s → (front : List TaskLine) (x : TaskLine) (back : List TaskLine) → s.tasks ≡ front ++ x ∷ back → IsTaskOf s x
@@ -74,11 +75,11 @@ reads_task s h front x back e =
     let p : Script = of_tasks s front in
     let fits : IsTaskOf s x = middle_task s h front x back e in
     let new : named p x.name ≡ None = task_is_new p s h.names front x back e refl refl in
-    let room : length (map uncalled front) < 64 = omega (arith, length-map front uncalled, length-middle front x back, ap length e, h.tasks) in
-    let made : after_task p (x.name ∷ decimal x.own ∷ decimal x.cpu.0 ∷ []) ≡ Ok (with_task p (uncalled x)) = task_made p x fits.name fits.own fits.cpu h.cpus.1 new room in
+    let room : length (map uncalled front) < max_tasks = omega (arith, length-map front uncalled, length-middle front x back, ap length e, h.tasks) in
+    let made : after_task_line p (x.name ∷ decimal x.own ∷ decimal x.cpu.0 ∷ []) ≡ Ok (with_task p (uncalled x)) = task_made p x fits.name fits.own fits.cpu h.cpus.1 new room in
     let next : with_task p (uncalled x) ≡ of_tasks s (front ++ x ∷ []) = ap (λ (ts : List TaskLine). record { cpus = s.cpus; tasks = ts; locks = []; picks = [] }) (sym (map-append uncalled front (x ∷ []))) in
     reads_line (begun p) (of_tasks s (front ++ x ∷ [])) (codes "task") (x.name ∷ decimal x.own ∷ decimal x.cpu.0 ∷ [])
-    (record { plain = task_plain s x fits h.cpus.1; kept = refl; not_go = refl; not_end = λ rest. refl; form = refl })
+    (record { plain = task_plain s x fits h.cpus.1; kept = refl; not_go = refl; not_end = λ rest. refl })
     (made ∙ ap Ok next)
 
 pub reads_tasks : (s : Script) → IsScript s → Reads (begun (empty s.cpus)) (flat_map (λ x. task_text x ∷ []) s.tasks) (begun (of_tasks s s.tasks))
@@ -90,32 +91,25 @@ reads_tasks s h = reads_each s.tasks (λ front back. begun (of_tasks s front)) (
 abbrev pub of_locks : Script → List (List ℕ × Kind) → Script
 of_locks s front = record { cpus = s.cpus; tasks = map uncalled s.tasks; locks = locks_of_lines s.cpus front; picks = [] }
 
-lock_made : (p : Script) (name : List ℕ) (kind : Kind) → is_name name ≡ true → named p name ≡ None → length p.locks + length (locks_of p.cpus name kind) ≤ 256
-    → after_lock p (name ∷ kind_word kind ∷ []) ≡ Ok (with_locks p (locks_of p.cpus name kind))
-unfolding after_lock
+lock_made : (p : Script) (name : List ℕ) (kind : Kind) → is_name name ≡ true → named p name ≡ None → length p.locks + length (locks_of p.cpus name kind) ≤ max_locks
+    → after_lock_line p (name ∷ lock_kind_word kind ∷ []) ≡ Ok (with_locks p (locks_of p.cpus name kind))
+unfolding after_lock_line
 lock_made p name kind shape new room =
-    let within : leb (length p.locks + length (locks_of p.cpus name kind)) 256 ≡ true = le-leb _ 256 room in
+    let within : leb (length p.locks + length (locks_of p.cpus name kind)) max_locks ≡ true = le-leb _ max_locks room in
     rw (shape, new, kind_read kind, within) refl
   where
-    kind_read : (kind : Kind) → kind_of (kind_word kind) ≡ Some kind
+    kind_read : (kind : Kind) → kind_spelled (lock_kind_word kind) ≡ Some kind
     kind_read kinds.Mutex = refl
     kind_read kinds.Spin = refl
     kind_read kinds.RwLock = refl
     kind_read kinds.RwSem = refl
     kind_read kinds.Local = refl
 
-lock_form : (name : List ℕ) (kind : Kind) → goes_on true (Some keywords.Lock) (name ∷ kind_word kind ∷ []) ≡ true
-lock_form name kinds.Mutex = refl
-lock_form name kinds.Spin = refl
-lock_form name kinds.RwLock = refl
-lock_form name kinds.RwSem = refl
-lock_form name kinds.Local = refl
-
 -- what is known of the next lock line
 record NextLock (s : Script) (front : List (List ℕ × Kind)) (line : List ℕ × Kind) : Type 0 where
   shape : is_name line.0 ≡ true
   new : named (of_locks s front) line.0 ≡ None
-  room : length (locks_of_lines s.cpus front) + length (locks_of s.cpus line.0 line.1) ≤ 256
+  room : length (locks_of_lines s.cpus front) + length (locks_of s.cpus line.0 line.1) ≤ max_locks
 
 next_lock : (s : Script) → IsScript s → (lines front : List (List ℕ × Kind)) (line : List ℕ × Kind) (back : List (List ℕ × Kind)) → s.locks ≡ locks_of_lines s.cpus lines → lines ≡ front ++ line ∷ back → NextLock s front line
 next_lock s h lines front line back whole e =
@@ -126,9 +120,7 @@ next_lock s h lines front line back whole e =
     let parts : s.locks ≡ before ++ (here ++ behind) = whole ∙ ap (locks_of_lines s.cpus) e ∙ flat_map-append (λ line. locks_of s.cpus line.0 line.1) front (line ∷ back) in
     let at : s.locks ≡ before ++ start.first ∷ (start.others ++ behind) = parts ∙ ap (λ (xs : List LockLine). before ++ (xs ++ behind)) start.whole in
     let within : length before < length s.locks = rw at (length-middle before start.first (start.others ++ behind)) in
-    let d : LockLine = record { name = []; kind = kinds.Mutex; cell = None } in
-    let is : lock_line s (record { 0 = length before }) ≡ get_or s.locks (length before) d = unwrap_or-slice_get s.locks (length before) d in
-    let fits : IsLockWithin s.cpus start.first = subst (IsLockWithin s.cpus) (sym is ∙ the_lock_line s before start.first (start.others ++ behind) at) (h.each_lock (length before) d within) in
+    let fits : IsLockWithin s.cpus start.first = subst (IsLockWithin s.cpus) (the_lock_line s before start.first (start.others ++ behind) at) (lock_fits s (record { 0 = length before }) h within) in
     let new : named (of_locks s front) start.first.name ≡ None = lock_is_new (of_locks s front) s h.names before start.first (start.others ++ behind) at start.cell (uncalled-names s.tasks) refl in
     record {
       shape = subst (λ (name : List ℕ). is_name name ≡ true) start.name_is fits.name;
@@ -141,12 +133,12 @@ reads_lock : (s : Script) → IsScript s → (lines : List (List ℕ × Kind)) �
 reads_lock s h lines whole front line back e =
     let p : Script = of_locks s front in
     let next : NextLock s front line = next_lock s h lines front line back whole e in
-    let made : after_lock p (line.0 ∷ kind_word line.1 ∷ []) ≡ Ok (with_locks p (locks_of p.cpus line.0 line.1)) = lock_made p line.0 line.1 next.shape next.new next.room in
+    let made : after_lock_line p (line.0 ∷ lock_kind_word line.1 ∷ []) ≡ Ok (with_locks p (locks_of p.cpus line.0 line.1)) = lock_made p line.0 line.1 next.shape next.new next.room in
     let more : locks_of_lines s.cpus (front ++ line ∷ []) ≡ locks_of_lines s.cpus front ++ locks_of s.cpus line.0 line.1 =
     flat_map-append (λ line. locks_of s.cpus line.0 line.1) front (line ∷ []) ∙ ap (λ (xs : List LockLine). locks_of_lines s.cpus front ++ xs) (append-nil (locks_of s.cpus line.0 line.1)) in
     let same : with_locks p (locks_of p.cpus line.0 line.1) ≡ of_locks s (front ++ line ∷ []) = ap (λ (ls : List LockLine). record { cpus = s.cpus; tasks = map uncalled s.tasks; locks = ls; picks = [] }) (sym more) in
-    reads_line (begun p) (of_locks s (front ++ line ∷ [])) (codes "lock") (line.0 ∷ kind_word line.1 ∷ [])
-    (record { plain = lock_plain line.0 line.1 next.shape; kept = refl; not_go = refl; not_end = λ rest. refl; form = lock_form line.0 line.1 })
+    reads_line (begun p) (of_locks s (front ++ line ∷ [])) (codes "lock") (line.0 ∷ lock_kind_word line.1 ∷ [])
+    (record { plain = lock_plain line.0 line.1 next.shape; kept = refl; not_go = refl; not_end = λ rest. refl })
     (made ∙ ap Ok same)
 
 pub reads_locks : (s : Script) → IsScript s → (lines : List (List ℕ × Kind)) → s.locks ≡ locks_of_lines s.cpus lines → Reads (begun (of_tasks s s.tasks)) (flat_map (λ line. line_text line ∷ []) lines) (begun (of_locks s lines))
@@ -162,7 +154,7 @@ of_calls s ts = record { cpus = s.cpus; tasks = ts; locks = s.locks; picks = [] 
 abbrev so_far : TaskLine → List Call → TaskLine
 so_far x done = record x { calls = done }
 
--- the tasks in front with all their calls, one with some, and those behind without
+-- the tasks before one with all their calls, that one with some, and those after it without
 abbrev amid : List TaskLine → TaskLine → List Call → List TaskLine → List TaskLine
 amid front x done back = front ++ so_far x done ∷ map uncalled back
 
@@ -178,7 +170,7 @@ none_uncalled [] = refl
 none_uncalled (t ∷ ts) = none_uncalled ts
 
 still_room : (s : Script) → IsScript s → (front : List TaskLine) (x : TaskLine) (back : List TaskLine) → s.tasks ≡ front ++ x ∷ back → (done : List Call) (c : Call) (rest : List Call) → x.calls ≡ done ++ c ∷ rest
-    → all_calls (of_calls s (amid front x done back)) < 16384
+    → all_calls (of_calls s (amid front x done back)) < max_calls
 still_room s h front x back e done c rest calls =
     let f : TaskLine → ℕ = λ t. length t.calls in
     let whole : all_calls s ≡ sum_by f (front ++ x ∷ back) = sum-map f s.tasks ∙ ap (sum_by f) e in
@@ -187,11 +179,11 @@ still_room s h front x back e done c rest calls =
     let some : sum_by f (so_far x done ∷ map uncalled back) ≡ length done + sum_by f (map uncalled back) = sum_by-cons f (so_far x done) (map uncalled back) in
     omega (arith, here, some, whole, part, sum_by-append f front (x ∷ back), sum_by-append f front (so_far x done ∷ map uncalled back), none_uncalled back, ap length calls, length-append done (c ∷ rest), h.calls)
 
-call_made : (p : Script) (task : List ℕ) (words : List (List ℕ)) (t : TaskId) (call : Call) → task_named p task ≡ Some t → call_in p words ≡ Ok call → all_calls p < 16384 → after_call p (task ∷ words) ≡ Ok (with_call p t call)
-unfolding after_call
-call_made p task words t call known gives room =
-    let within : ltb (all_calls p) 16384 ≡ true = lt-ltb (all_calls p) 16384 room in
-    rw (known, gives, within) refl
+call_made : (p : Script) (task : List ℕ) (words : List (List ℕ)) (t : TaskId) (call : Call) → task_named p task ≡ Some t → Says p words call → all_calls p < max_calls → after_call_line p (task ∷ words) ≡ Ok (with_call p t call)
+unfolding after_call_line
+call_made p task words t call known says room =
+    let within : ltb (all_calls p) max_calls ≡ true = lt-ltb (all_calls p) max_calls room in
+    rw (says.formed, known, says.gives, within) refl
 
 -- the call goes to the task that is amid
 call_added : (s : Script) (front : List TaskLine) (x : TaskLine) (done : List Call) (back : List TaskLine) (c : Call) → with_call (of_calls s (amid front x done back)) (record { 0 = length front }) c ≡ of_calls s (amid front x (done ++ c ∷ []) back)
@@ -212,9 +204,9 @@ reads_call s h front x back e done c rest calls =
     let says : Says p (call_words s c) c = call_says p s h has c call in
     let known : task_named p (task_line s t).name ≡ Some t = task_is_known p s h.names t in' has.names in
     let named : task_named p x.name ≡ Some t = subst (λ (line : TaskLine). task_named p line.name ≡ Some t) (the_task_line s front x back e) known in
-    let made : after_call p (x.name ∷ call_words s c) ≡ Ok (with_call p t c) = call_made p x.name (call_words s c) t c named says.gives (still_room s h front x back e done c rest calls) in
+    let made : after_call_line p (x.name ∷ call_words s c) ≡ Ok (with_call p t c) = call_made p x.name (call_words s c) t c named says (still_room s h front x back e done c rest calls) in
     reads_line (begun p) (of_calls s (amid front x (done ++ c ∷ []) back)) (codes "call") (x.name ∷ call_words s c)
-    (record { plain = call_plain x.name (call_words s c) fits.name says.plain; kept = refl; not_go = refl; not_end = λ rest. refl; form = says.form x.name })
+    (record { plain = call_plain x.name (call_words s c) fits.name says.plain; kept = refl; not_go = refl; not_end = λ rest. refl })
     (made ∙ ap Ok (call_added s front x done back c))
   where
     middle : {X : Type 0} (P : X → Type 0) (front : List X) (x : X) (back : List X) → All P (front ++ x ∷ back) → P x
@@ -234,10 +226,10 @@ reads_calls s h = reads_each s.tasks (λ front back. begun (of_calls s (front ++
 
 -- ---- picks
 
-pick_made : (p : Script) (task : List ℕ) (t : TaskId) → task_named p task ≡ Some t → length p.picks < 65536 → after_pick p (task ∷ []) ≡ Ok (with_pick p t)
-unfolding after_pick
+pick_made : (p : Script) (task : List ℕ) (t : TaskId) → task_named p task ≡ Some t → length p.picks < max_picks → after_pick_line p (task ∷ []) ≡ Ok (with_pick p t)
+unfolding after_pick_line
 pick_made p task t known room =
-    let within : ltb (length p.picks) 65536 ≡ true = lt-ltb (length p.picks) 65536 room in
+    let within : ltb (length p.picks) max_picks ≡ true = lt-ltb (length p.picks) max_picks room in
     rw (known, within) refl
 
 -- the script with these picks alone
@@ -249,9 +241,9 @@ reads_pick s h front t back e =
     let p : Script = of_picks s front in
     let in' : t.0 < length s.tasks = subst (λ (u : TaskId). u.0 < length s.tasks) (get_or-append_seam front t back t) (subst (All (λ (u : TaskId). u.0 < length s.tasks)) e h.each_pick (length front) t (length-middle front t back)) in
     let known : task_named p (task_line s t).name ≡ Some t = task_is_known p s h.names t in' refl in
-    let room : length front < 65536 = omega (arith, length-middle front t back, ap length e, h.picks) in
+    let room : length front < max_picks = omega (arith, length-middle front t back, ap length e, h.picks) in
     reads_line (begun p) (of_picks s (front ++ t ∷ [])) (codes "pick") ((task_line s t).name ∷ [])
-    (record { plain = pick_plain (task_line s t).name (task_fits s t h in').name; kept = refl; not_go = refl; not_end = λ rest. refl; form = refl })
+    (record { plain = pick_plain (task_line s t).name (task_fits s t h in').name; kept = refl; not_go = refl; not_end = λ rest. refl })
     (pick_made p (task_line s t).name t known room)
 
 pub reads_picks : (s : Script) → IsScript s → Reads (begun (of_picks s [])) (flat_map (λ t. pick_text s t ∷ []) s.picks) (begun (of_picks s s.picks))

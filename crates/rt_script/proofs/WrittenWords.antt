@@ -3,11 +3,9 @@ use Rattle.std.proofs.Common.{◌≡◌, ℕ, ◌+◌, ◌*◌, ◌<◌, ◌≤�
 use Rattle.std.specs.Prelude.{decimal, bytes_eq, ◌==◌}
 use Rattle.std.specs.List.{list_all}
 use Rattle.std.specs.Char.{is_ascii_digit}
-use Rattle.std.specs.Str.{all_ascii_digits}
 use Rattle.std.specs.Str.Parse.{digits_value}
 use Rattle.std.proofs.lemmas.Bool.Decides.{nat_tests}
 use Rattle.std.proofs.lemmas.Bool.{le-leb, lt-ltb, leb-true}
-use Rattle.std.proofs.lemmas.Str.Parse.{IsNumeralModel, numerals_by_value, tells_all_ascii_digits}
 use Rattle.std.proofs.lemmas.Fmt.{digits_decimal, digits_value-decimal, decimal_nonempty, length-decimal-le}
 use Rattle.std.proofs.lemmas.List.Folds.{list_all-append}
 use Rattle.std.proofs.lemmas.List.Splits.{slice_split_none, slice_split_at}
@@ -15,6 +13,10 @@ use Rattle.std.proofs.lemmas.List.Elements.{All-nil, All-cons}
 use Rattle.std.proofs.lemmas.Slice.Eq.{bytes_eq-Decides}
 use Rattle.rt_base.specs.Name.{is_name_byte, is_name}
 use Rattle.rt_base.specs.Text.{spaced}
+use Rattle.rt_script.proofs.Numbers.{decimals}
+use Rattle.rt_script.proofs.Tests.{left, right, both}
+use Rattle.rt_script.specs.Lines.{are_words}
+use Rattle.rt_script.specs.Limits.{max_name}
 use Rattle.rt_script.specs.Words.{words_of, number_upto, is_printable}
 
 -- ---- words
@@ -23,25 +25,14 @@ use Rattle.rt_script.specs.Words.{words_of, number_upto, is_printable}
 abbrev pub is_word_byte : ℕ → Bool
 is_word_byte b = leb 33 b && leb b 126
 
--- 1 to 16 such bytes
+-- as many such bytes as a name may have
 abbrev pub is_word : List ℕ → Bool
-is_word word = ltb 0 (length word) && leb (length word) 16 && list_all is_word_byte word
-
-pub left : (a b : Bool) → (a && b) ≡ true → a ≡ true
-left true b e = refl
-left false b e = e
-
-pub right : (a b : Bool) → (a && b) ≡ true → b ≡ true
-right true b e = e
-right false b e = absurd cc
-
-pub both : (a b : Bool) → a ≡ true → b ≡ true → (a && b) ≡ true
-both a b e f = rw (e, f) refl
+is_word word = ltb 0 (length word) && leb (length word) max_name && list_all is_word_byte word
 
 word_some : (word : List ℕ) → is_word word ≡ true → ltb 0 (length word) ≡ true
 word_some word e = left _ _ (left _ _ e)
 
-word_short : (word : List ℕ) → is_word word ≡ true → leb (length word) 16 ≡ true
+word_short : (word : List ℕ) → is_word word ≡ true → leb (length word) max_name ≡ true
 word_short word e = right _ _ (left _ _ e)
 
 word_bytes : (word : List ℕ) → is_word word ≡ true → list_all is_word_byte word ≡ true
@@ -62,35 +53,36 @@ word_of_name word e = both _ _ (left _ _ (left _ _ e)) (all_weaker is_name_byte 
 digit_byte : (b : ℕ) → is_ascii_digit b ≡ true → is_word_byte b ≡ true
 digit_byte b e = grind (arith, nat_tests)
 
-own : IsNumeralModel (λ ds. all_ascii_digits ds ≡ true) (digits_value 10)
-own = numerals_by_value _ tells_all_ascii_digits
-
 pub word_of_number : (n : ℕ) → n < 256 → is_word (decimal n) ≡ true
 word_of_number n small =
     let some : ltb 0 (length (decimal n)) ≡ true = lt-ltb 0 (length (decimal n)) (decimal_nonempty n (omega arith)) in
-    let short : leb (length (decimal n)) 16 ≡ true = le-leb (length (decimal n)) 16 (omega (arith, length-decimal-le 3 n (omega arith) (omega arith) (omega arith))) in
-    both _ _ (both _ _ some short) (all_weaker is_ascii_digit is_word_byte digit_byte (decimal n) (digits_decimal own n (omega arith)))
+    let short : leb (length (decimal n)) max_name ≡ true = le-leb (length (decimal n)) max_name (omega (arith, length-decimal-le 3 n (omega arith) (omega arith) (omega arith))) in
+    both _ _ (both _ _ some short) (all_weaker is_ascii_digit is_word_byte digit_byte (decimal n) (digits_decimal decimals n (omega arith)))
 
 pub number_read : (most n : ℕ) → n ≤ most → most < 256 → number_upto most (decimal n) ≡ Some n
 unfolding number_upto
 number_read most n le small =
-    let value : digits_value 10 (decimal n) ≡ n = digits_value-decimal own n (omega arith) in
+    let value : digits_value 10 (decimal n) ≡ n = digits_value-decimal decimals n (omega arith) in
     let same : bytes_eq (decimal n) (decimal n) ≡ true = (bytes_eq-Decides (decimal n) (decimal n)).1 refl in
     let within : leb n most ≡ true = le-leb n most le in
     rw (value, same, within) refl
 
 -- ---- lines of words
 
--- a word, and others behind spaces
+-- a word, and others after spaces
 abbrev pub line_of : List ℕ → List (List ℕ) → List ℕ
 line_of first words = first ++ spaced words
 
 no_space : (b : ℕ) → is_word_byte b ≡ true → (b == 32) ≡ false
 no_space b e = grind (arith, nat_tests)
 
+-- bytes that pass a test which the separator doesn't
+pub all_other : (p : ℕ → Bool) (separator : ℕ) → ((b : ℕ) → p b ≡ true → (b == separator) ≡ false) → (bs : List ℕ) → list_all p bs ≡ true → All (λ b. (b == separator) ≡ false) bs
+all_other p separator h [] e = All-nil (λ b. (b == separator) ≡ false)
+all_other p separator h (b ∷ bs) e = All-cons (λ c. (c == separator) ≡ false) b bs (h b (left _ _ e)) (all_other p separator h bs (right _ _ e))
+
 spaceless : (word : List ℕ) → list_all is_word_byte word ≡ true → All (λ b. (b == 32) ≡ false) word
-spaceless [] e = All-nil (λ b. (b == 32) ≡ false)
-spaceless (b ∷ bs) e = All-cons (λ c. (c == 32) ≡ false) b bs (no_space b (left _ _ e)) (spaceless bs (right _ _ e))
+spaceless word e = all_other is_word_byte 32 no_space word e
 
 pub words_of-line : (first : List ℕ) (words : List (List ℕ)) → list_all is_word (first ∷ words) ≡ true → words_of (line_of first words) ≡ first ∷ words
 words_of-line first [] e =
@@ -111,14 +103,14 @@ printable_spaced (w ∷ ws) e = list_all-append is_printable w (spaced ws) ∙ b
 pub printable_line : (first : List ℕ) (words : List (List ℕ)) → list_all is_word (first ∷ words) ≡ true → list_all is_printable (line_of first words) ≡ true
 printable_line first words e = list_all-append is_printable first (spaced words) ∙ both _ _ (printable_word first (left _ _ e)) (printable_spaced words (right _ _ e))
 
-length_spaced : (words : List (List ℕ)) → list_all is_word words ≡ true → length (spaced words) ≤ 17 * length words
+length_spaced : (words : List (List ℕ)) → list_all is_word words ≡ true → length (spaced words) ≤ (max_name + 1) * length words
 length_spaced [] e = omega arith
-length_spaced (w ∷ ws) e = omega (arith, length-append w (spaced ws), leb-true (length w) 16 (word_short w (left _ _ e)), length_spaced ws (right _ _ e))
+length_spaced (w ∷ ws) e = omega (arith, length-append w (spaced ws), leb-true (length w) max_name (word_short w (left _ _ e)), length_spaced ws (right _ _ e))
 
-pub length_line : (first : List ℕ) (words : List (List ℕ)) → list_all is_word (first ∷ words) ≡ true → length (line_of first words) ≤ 16 + 17 * length words
-length_line first words e = omega (arith, length-append first (spaced words), leb-true (length first) 16 (word_short first (left _ _ e)), length_spaced words (right _ _ e))
+pub length_line : (first : List ℕ) (words : List (List ℕ)) → list_all is_word (first ∷ words) ≡ true → length (line_of first words) ≤ max_name + (max_name + 1) * length words
+length_line first words e = omega (arith, length-append first (spaced words), leb-true (length first) max_name (word_short first (left _ _ e)), length_spaced words (right _ _ e))
 
 -- no word of such a line is empty
-pub filled : (words : List (List ℕ)) → list_all is_word words ≡ true → list_all (λ word. ltb 0 (length word)) words ≡ true
-filled [] e = refl
-filled (w ∷ ws) e = both _ _ (word_some w (left _ _ e)) (filled ws (right _ _ e))
+pub no_empty_word : (words : List (List ℕ)) → list_all is_word words ≡ true → are_words words ≡ true
+no_empty_word [] e = refl
+no_empty_word (w ∷ ws) e = both _ _ (word_some w (left _ _ e)) (no_empty_word ws (right _ _ e))

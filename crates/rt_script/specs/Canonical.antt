@@ -9,12 +9,13 @@ use Rattle.rt_base.specs.declared.kind.Kind.TheVariants as kinds
 use Rattle.rt_base.specs.Script.{Script, TaskLine, LockLine, task_line, lock_line, is_first_cell}
 use Rattle.rt_base.specs.Text.{spaced, state_word}
 
-abbrev pub kind_word : Kind → List ℕ
-kind_word kinds.Mutex = codes "mutex"
-kind_word kinds.Spin = codes "spin"
-kind_word kinds.RwLock = codes "rwlock"
-kind_word kinds.RwSem = codes "rwsem"
-kind_word kinds.Local = codes "local"
+-- the word for a kind of lock
+abbrev pub lock_kind_word : Kind → List ℕ
+lock_kind_word kinds.Mutex = codes "mutex"
+lock_kind_word kinds.Spin = codes "spin"
+lock_kind_word kinds.RwLock = codes "rwlock"
+lock_kind_word kinds.RwSem = codes "rwsem"
+lock_kind_word kinds.Local = codes "local"
 
 -- a call on a lock
 abbrev pub on_lock : Script → List ℕ → LockId → List (List ℕ)
@@ -58,7 +59,7 @@ abbrev pub task_text : TaskLine → List ℕ
 task_text task = codes "task" ++ spaced (task.name ∷ decimal task.own ∷ decimal task.cpu.0 ∷ [])
 
 abbrev pub lock_text : LockLine → List ℕ
-lock_text lock = codes "lock" ++ spaced (lock.name ∷ kind_word lock.kind ∷ [])
+lock_text lock = codes "lock" ++ spaced (lock.name ∷ lock_kind_word lock.kind ∷ [])
 
 abbrev pub call_text : Script → TaskLine → Call → List ℕ
 call_text script task call = codes "call" ++ spaced (task.name ∷ call_words script call)
@@ -66,7 +67,7 @@ call_text script task call = codes "call" ++ spaced (task.name ∷ call_words sc
 abbrev pub pick_text : Script → TaskId → List ℕ
 pick_text script t = codes "pick" ++ spaced ((task_line script t).name ∷ [])
 
--- the locks that have a line of their own: all but the cells of a local lock behind its first
+-- the locks that have a line of their own: all but the cells of a local lock after its first
 abbrev pub lined_locks : Script → List LockLine
 lined_locks script = filter (λ (l : LockLine). is_first_cell l.cell) script.locks
 

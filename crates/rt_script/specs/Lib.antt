@@ -1,9 +1,13 @@
 pub mod Adding
+pub mod Calls
 pub mod Canonical
 pub mod Digits
-pub mod Fields
 pub mod Grammar
-pub mod Names
-pub mod Refusing
 pub mod Judging
+pub mod Limits
+pub mod Lines
+pub mod Names
+pub mod Results
+pub mod ScriptFields
+pub mod Spelling
 pub mod Words

@@ -12,9 +12,9 @@ o >>= f = option_and_then f o
 abbrev pub only_if : {A : Type 0} → Bool → Option A → Option A
 only_if passed o = if passed then o else None
 
--- what stands between the line feeds; the last is what stands behind the last one
-abbrev pub lines_of : List ℕ → List (List ℕ)
-lines_of text = slice_split (λ b. b == 10) text
+-- what stands between the line feeds; the last is what stands after the last one
+abbrev pub text_lines : List ℕ → List (List ℕ)
+text_lines text = slice_split (λ b. b == 10) text
 
 -- what stands between the spaces
 abbrev pub words_of : List ℕ → List (List ℕ)
@@ -36,12 +36,12 @@ three (a ∷ b ∷ c ∷ []) = Some (a, b, c)
 three _ = None
 
 -- the number whose decimal digits the word is
-abbrev pub number_of : List ℕ → Option ℕ
-number_of word = only_if (bytes_eq (decimal (digits_value 10 word)) word) (Some (digits_value 10 word))
+abbrev pub number_spelled : List ℕ → Option ℕ
+number_spelled word = only_if (bytes_eq (decimal (digits_value 10 word)) word) (Some (digits_value 10 word))
 
 -- the same, where it is at most that
 unfoldable pub number_upto : ℕ → List ℕ → Option ℕ
-number_upto most word = number_of word >>= λ n. only_if (nat_le n most) (Some n)
+number_upto most word = number_spelled word >>= λ n. only_if (nat_le n most) (Some n)
 
 -- a printable ASCII character, the space among them
 abbrev pub is_printable : ℕ → Bool

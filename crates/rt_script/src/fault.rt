@@ -23,7 +23,7 @@ pub enum Why {
     TooMany,
     /// The text ends before a `go` line.
     NoGo,
-    /// Bytes behind the `go` line.
+    /// Bytes after the `go` line.
     AfterGo,
 }
 

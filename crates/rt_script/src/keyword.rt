@@ -10,11 +10,11 @@ pub(crate) enum Keyword {
 
 impl Keyword {
     ghost use Rattle.std.specs.Prelude.{◌≡◌};
-    ghost use Rattle.rt_script.specs.Grammar.{keyword_of};
+    ghost use Rattle.rt_script.specs.Spelling.{keyword_spelled};
 
     /// The keyword that a word spells.
     pub(crate) fn read(word: &[u8]) -> Option<Keyword>
-        ensures { result ≡ keyword_of word.now }
+        ensures { result ≡ keyword_spelled word.now }
     {
         if word == b"cpus".as_slice() {
             Some(Keyword::Cpus)

@@ -1,21 +1,22 @@
 //! Lock scripts: what the text of a script means, as tasks, locks, calls and picks.
 #![tactic(auto)]
 
+mod call_form;
 mod draft;
 mod fault;
-mod form;
 mod keyword;
 mod limits;
+mod line_error;
 mod lock;
 mod name;
 mod named;
 mod number;
+mod pieces;
 mod reading;
-mod refusal;
 mod script;
+mod spelling;
 mod task;
 mod verb;
-mod words;
 mod writing;
 
 pub use fault::{ScriptFault, Why};
@@ -23,6 +24,10 @@ pub use reading::read_script;
 pub use script::Script;
 
 #[cfg(test)]
-mod tests;
+mod fault_tests;
+#[cfg(test)]
+mod limit_tests;
+#[cfg(test)]
+mod reading_tests;
 #[cfg(test)]
 mod writing_tests;

@@ -20,3 +20,9 @@ pub(crate) const MAX_CPU: u8 = 7;
 
 /// The most processors.
 pub(crate) const MAX_CPUS: u8 = 8;
+
+/// The most characters of a name.
+pub(crate) const MAX_NAME: usize = 16;
+
+/// The factor of the budget of events, which grows as the tasks and as their calls.
+pub(crate) const BUDGET_FACTOR: u64 = 16;

@@ -1,6 +1,20 @@
-ghost use Rattle.std.specs.Prelude.{◌≡◌, ◌<◌, ◌≤◌, ◌↔◌, IsTrue, IfSome, length, slice_index};
+ghost use Rattle.std.specs.Prelude.{◌≡◌, ◌≤◌, IfSome};
 ghost use Rattle.rt_script.specs.Words.{number_upto};
 ghost use Rattle.rt_script.specs.Digits.{digits_upto};
+
+/// The number of at most `most` whose decimal digits the word is.
+pub(crate) fn number(word: &[u8], most: u8) -> Option<u8>
+    ensures value { result ≡ number_upto most word.now }
+    ensures within { IfSome result (λ n. n ≤ most) }
+{
+    if word.is_empty() {
+        return None;
+    }
+    if word.len() > 1 && word[0] == b'0' {
+        return None;
+    }
+    digits(word, most)
+}
 
 /// The number of at most `most` that digits write, leading zeros among them.
 fn digits(word: &[u8], most: u8) -> Option<u8>
@@ -18,25 +32,4 @@ fn digits(word: &[u8], most: u8) -> Option<u8>
         }
     }
     Some(number as u8)
-}
-
-/// Whether a zero stands before other digits.
-fn leads_with_zero(word: &[u8]) -> bool
-    ensures { IsTrue result ↔ (slice_index word.now 0 ≡ 48) × (1 < length word.now) }
-{
-    word.len() > 1 && word[0] == b'0'
-}
-
-/// The number of at most `most` whose decimal digits the word is.
-pub(crate) fn number(word: &[u8], most: u8) -> Option<u8>
-    ensures value { result ≡ number_upto most word.now }
-    ensures within { IfSome result (λ n. n ≤ most) }
-{
-    if word.is_empty() {
-        return None;
-    }
-    if leads_with_zero(word) {
-        return None;
-    }
-    digits(word, most)
 }

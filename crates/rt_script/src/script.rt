@@ -1,10 +1,11 @@
 ghost use Rattle.std.specs.Prelude.{◌≡◌, ◌+◌, ◌<◌, ◌≤◌, ℕ, List, [], length, true, None, OnOk, OnErr};
 ghost use Rattle.rt_base.specs.Name.{is_name};
 ghost use Rattle.rt_base.specs.Script.{task_line, lock_line, all_calls, budget_of, IsScript, IsTaskOf, IsCallOf, IsCellOf, IsLockWithin};
+ghost use Rattle.rt_script.specs.Limits.{max_name};
 ghost use Rattle.rt_script.specs.Names.{named, AreNewLocks};
-ghost use Rattle.rt_script.specs.Adding.{no_lines, with_cpus, with_task, with_locks, with_call, with_pick};
+ghost use Rattle.rt_script.specs.Adding.{empty_script, with_cpus, with_task, with_locks, with_call, with_pick};
 
-use crate::limits::{MAX_CALLS, MAX_CPUS, MAX_LOCKS, MAX_PICKS, MAX_TASKS};
+use crate::limits::{BUDGET_FACTOR, MAX_CALLS, MAX_CPUS, MAX_LOCKS, MAX_PICKS, MAX_TASKS};
 use crate::lock::Lock;
 use crate::task::Task;
 use rt_base::{Call, Cpu, Kind, LockId, Prio, TaskId};
@@ -27,7 +28,7 @@ impl Model for Script {
 
     ghost Value = { base.Script };
 
-    ghost use Rattle.rt_script.specs.Fields.{script_of_fields, AreFields};
+    ghost use Rattle.rt_script.specs.ScriptFields.{script_of_fields, AreFields};
 
     ghost view = { script_of_fields };
 
@@ -75,6 +76,144 @@ impl Script {
         self.picks.as_slice()
     }
 
+    /// The priority of a task's line.
+    pub fn own(&self, t: TaskId) -> Prio
+        requires { t.0 < length self.now.tasks }
+        ensures { result ≡ (task_line self.now t).own }
+    {
+        self.task(t).own
+    }
+
+    /// The processor on which a task starts.
+    pub fn cpu(&self, t: TaskId) -> Cpu
+        requires { t.0 < length self.now.tasks }
+        ensures { result ≡ (task_line self.now t).cpu }
+    {
+        self.task(t).cpu
+    }
+
+    /// The calls of a task, in order.
+    pub fn calls(&self, t: TaskId) -> &[Call]
+        requires { t.0 < length self.now.tasks }
+        ensures { result.now ≡ (task_line self.now t).calls }
+    {
+        self.task(t).calls.as_slice()
+    }
+
+    /// The name of a task.
+    pub fn task_name(&self, t: TaskId) -> &str
+        requires { t.0 < length self.now.tasks }
+        ensures name { result.now ≡ (task_line self.now t).name }
+        ensures short { (1 ≤ length result.now) × (length result.now ≤ max_name) }
+    {
+        self.task(t).name.as_str()
+    }
+
+    /// The kind of a lock.
+    pub fn kind(&self, l: LockId) -> Kind
+        requires { l.0 < length self.now.locks }
+        ensures { result ≡ (lock_line self.now l).kind }
+    {
+        self.lock(l).kind
+    }
+
+    /// The name of a lock. The cells of a local lock have one name.
+    pub fn lock_name(&self, l: LockId) -> &str
+        requires { l.0 < length self.now.locks }
+        ensures name { result.now ≡ (lock_line self.now l).name }
+        ensures short { (1 ≤ length result.now) × (length result.now ≤ max_name) }
+    {
+        self.lock(l).name.as_str()
+    }
+
+    /// The processor of a local lock's cell, and `None` for the other kinds.
+    pub fn cell_of(&self, l: LockId) -> Option<Cpu>
+        requires { l.0 < length self.now.locks }
+        ensures cell { result ≡ (lock_line self.now l).cell }
+        ensures local { IsCellOf self.now.cpus (lock_line self.now l).kind result }
+    {
+        self.lock(l).cell
+    }
+
+    /// How many events a replay in the stated order gets where no number is asked for.
+    pub fn budget(&self) -> u64
+        ensures { result ≡ budget_of self.now }
+    {
+        let tasks = self.tasks.len() as u64;
+        BUDGET_FACTOR * (tasks + 2) * (tasks + self.all_calls as u64 + 2)
+    }
+
+    /// A script of one processor, without tasks and locks.
+    pub(crate) fn new(alloc: Global) -> Script
+        ensures { result ≡ empty_script }
+    {
+        Script {
+            cpus: 1,
+            tasks: Vec::new(alloc),
+            locks: Vec::new(alloc),
+            picks: Vec::new(alloc),
+            all_calls: 0,
+        }
+    }
+
+    /// Sets the number of processors, where nothing was added yet.
+    pub(crate) fn set_cpus(&mut self, n: u8)
+        requires positive { 1 ≤ n }
+        requires few { n ≤ MAX_CPUS }
+        requires empty { self.old ≡ empty_script }
+        ensures { self.new ≡ with_cpus self.old n }
+    {
+        self.cpus = n;
+    }
+
+    /// Adds a task after the others. An `Err` changes nothing.
+    pub(crate) fn push_task(&mut self, task: Task) -> Result<(), AllocError>
+        requires room { length self.old.tasks < MAX_TASKS }
+        requires fits { IsTaskOf self.old task }
+        requires uncalled { task.calls ≡ [] }
+        requires free { named self.old task.name ≡ None }
+        ensures ok { OnOk result (self.new ≡ with_task self.old task) }
+        ensures err { OnErr result (self.new ≡ self.old) }
+    {
+        self.tasks.push(task)?;
+        Ok(())
+    }
+
+    /// Adds the locks of one line after the others. An `Err` changes nothing.
+    pub(crate) fn push_locks(&mut self, mut locks: Vec<Lock>) -> Result<(), AllocError>
+        requires room { length self.old.locks + length locks.items ≤ MAX_LOCKS }
+        requires added { (name : List ℕ) × AreNewLocks self.old name locks.items }
+        ensures ok { OnOk result (self.new ≡ with_locks self.old locks.items) }
+        ensures err { OnErr result (self.new ≡ self.old) }
+    {
+        self.locks.append(&mut locks)?;
+        Ok(())
+    }
+
+    /// Adds a call after the others of a task. An `Err` changes nothing.
+    pub(crate) fn push_call(&mut self, t: TaskId, call: Call) -> Result<(), AllocError>
+        requires task { t.0 < length self.old.tasks }
+        requires room { all_calls self.old < MAX_CALLS }
+        requires fits { IsCallOf self.old call }
+        ensures ok { OnOk result (self.new ≡ with_call self.old t call) }
+        ensures err { OnErr result (self.new ≡ self.old) }
+    {
+        self.tasks[t.0 as usize].push_call(call)?;
+        self.all_calls += 1;
+        Ok(())
+    }
+
+    /// Adds a pick after the others. An `Err` changes nothing.
+    pub(crate) fn push_pick(&mut self, t: TaskId) -> Result<(), AllocError>
+        requires task { t.0 < length self.old.tasks }
+        requires room { length self.old.picks < MAX_PICKS }
+        ensures ok { OnOk result (self.new ≡ with_pick self.old t) }
+        ensures err { OnErr result (self.new ≡ self.old) }
+    {
+        self.picks.push(t)?;
+        Ok(())
+    }
+
     /// All tasks.
     pub(crate) fn task_lines(&self) -> &[Task]
         ensures { result.now ≡ self.now.tasks }
@@ -105,143 +244,5 @@ impl Script {
         ensures within { IsLockWithin self.now.cpus (lock_line self.now l) }
     {
         &self.locks[l.0 as usize]
-    }
-
-    /// The priority of a task's line.
-    pub fn own(&self, t: TaskId) -> Prio
-        requires { t.0 < length self.now.tasks }
-        ensures { result ≡ (task_line self.now t).own }
-    {
-        self.task(t).own()
-    }
-
-    /// The processor on which a task starts.
-    pub fn cpu(&self, t: TaskId) -> Cpu
-        requires { t.0 < length self.now.tasks }
-        ensures { result ≡ (task_line self.now t).cpu }
-    {
-        self.task(t).cpu()
-    }
-
-    /// The calls of a task, in order.
-    pub fn calls(&self, t: TaskId) -> &[Call]
-        requires { t.0 < length self.now.tasks }
-        ensures { result.now ≡ (task_line self.now t).calls }
-    {
-        self.task(t).calls()
-    }
-
-    /// The name of a task.
-    pub fn task_name(&self, t: TaskId) -> &str
-        requires { t.0 < length self.now.tasks }
-        ensures name { result.now ≡ (task_line self.now t).name }
-        ensures short { (1 ≤ length result.now) × (length result.now ≤ 16) }
-    {
-        self.task(t).name()
-    }
-
-    /// The kind of a lock.
-    pub fn kind(&self, l: LockId) -> Kind
-        requires { l.0 < length self.now.locks }
-        ensures { result ≡ (lock_line self.now l).kind }
-    {
-        self.lock(l).kind()
-    }
-
-    /// The name of a lock. The cells of a local lock have one name.
-    pub fn lock_name(&self, l: LockId) -> &str
-        requires { l.0 < length self.now.locks }
-        ensures name { result.now ≡ (lock_line self.now l).name }
-        ensures short { (1 ≤ length result.now) × (length result.now ≤ 16) }
-    {
-        self.lock(l).name()
-    }
-
-    /// The processor of a local lock's cell, and `None` for the other kinds.
-    pub fn cell_of(&self, l: LockId) -> Option<Cpu>
-        requires { l.0 < length self.now.locks }
-        ensures cell { result ≡ (lock_line self.now l).cell }
-        ensures local { IsCellOf self.now.cpus (lock_line self.now l).kind result }
-    {
-        self.lock(l).cell()
-    }
-
-    /// How many events a replay in the stated order gets where no number is asked for.
-    pub fn budget(&self) -> u64
-        ensures { result ≡ budget_of self.now }
-    {
-        let tasks = self.tasks.len() as u64;
-        16 * (tasks + 2) * (tasks + self.all_calls as u64 + 2)
-    }
-
-    /// A script of one processor, without tasks and locks.
-    pub(crate) fn new(alloc: Global) -> Script
-        ensures { result ≡ no_lines }
-    {
-        Script {
-            cpus: 1,
-            tasks: Vec::new(alloc),
-            locks: Vec::new(alloc),
-            picks: Vec::new(alloc),
-            all_calls: 0,
-        }
-    }
-
-    /// Adds a task behind the others. An `Err` changes nothing.
-    pub(crate) fn push_task(&mut self, task: Task) -> Result<(), AllocError>
-        requires room { length self.old.tasks < MAX_TASKS }
-        requires fits { IsTaskOf self.old task }
-        requires uncalled { task.calls ≡ [] }
-        requires free { named self.old task.name ≡ None }
-        ensures ok { OnOk result (self.new ≡ with_task self.old task) }
-        ensures err { OnErr result (self.new ≡ self.old) }
-    {
-        self.tasks.push(task)?;
-        Ok(())
-    }
-
-    /// Sets the number of processors, where nothing was added yet.
-    pub(crate) fn set_cpus(&mut self, n: u8)
-        requires positive { 1 ≤ n }
-        requires few { n ≤ MAX_CPUS }
-        requires empty { self.old ≡ no_lines }
-        ensures { self.new ≡ with_cpus self.old n }
-    {
-        self.cpus = n;
-    }
-
-    /// Adds the locks of one line behind the others. An `Err` changes nothing.
-    pub(crate) fn push_locks(&mut self, mut locks: Vec<Lock>) -> Result<(), AllocError>
-        requires room { length self.old.locks + length locks.items ≤ MAX_LOCKS }
-        requires added { (name : List ℕ) × AreNewLocks self.old name locks.items }
-        ensures ok { OnOk result (self.new ≡ with_locks self.old locks.items) }
-        ensures err { OnErr result (self.new ≡ self.old) }
-    {
-        self.locks.append(&mut locks)?;
-        Ok(())
-    }
-
-    /// Adds a call behind the others of a task. An `Err` changes nothing.
-    pub(crate) fn push_call(&mut self, t: TaskId, call: Call) -> Result<(), AllocError>
-        requires task { t.0 < length self.old.tasks }
-        requires room { all_calls self.old < MAX_CALLS }
-        requires fits { IsCallOf self.old call }
-        ensures ok { OnOk result (self.new ≡ with_call self.old t call) }
-        ensures err { OnErr result (self.new ≡ self.old) }
-    {
-        self.tasks[t.0 as usize].push_call(call)?;
-        self.all_calls += 1;
-        Ok(())
-    }
-
-    /// Adds a pick behind the others. An `Err` changes nothing.
-    pub(crate) fn push_pick(&mut self, t: TaskId) -> Result<(), AllocError>
-        requires task { t.0 < length self.old.tasks }
-        requires room { length self.old.picks < MAX_PICKS }
-        ensures ok { OnOk result (self.new ≡ with_pick self.old t) }
-        ensures err { OnErr result (self.new ≡ self.old) }
-    {
-        self.picks.push(t)?;
-        Ok(())
     }
 }

@@ -1,4 +1,4 @@
-ghost use Rattle.std.specs.Prelude.{◌≡◌, [], ◌∷◌, ◌++◌, IfOk, OnOk, OnErr};
+ghost use Rattle.std.specs.Prelude.{◌≡◌, [], ◌∷◌, ◌++◌, OnOk, OnErr};
 ghost use Rattle.std.specs.String.{string_bytes};
 
 use rt_base::{Call, Cpu, Prio};
@@ -8,10 +8,10 @@ use std::marker::Model;
 /// A task: its line, and the calls that the call lines give it.
 #[derive(Drop)]
 pub(crate) struct Task {
-    name: String,
-    own: Prio,
-    cpu: Cpu,
-    calls: Vec<Call>,
+    pub(crate) name: String,
+    pub(crate) own: Prio,
+    pub(crate) cpu: Cpu,
+    pub(crate) calls: Vec<Call>,
 }
 
 impl Model for Task {
@@ -36,38 +36,7 @@ impl Task {
         }
     }
 
-    pub(crate) fn name(&self) -> &str
-        ensures { result.now ≡ self.now.name }
-    {
-        self.name.as_str()
-    }
-
-    /// The name as a text of its own.
-    pub(crate) fn copy_name(&self) -> Result<String, AllocError>
-        ensures { IfOk result (λ name. string_bytes name ≡ self.now.name) }
-    {
-        self.name.clone()
-    }
-
-    pub(crate) fn own(&self) -> Prio
-        ensures { result ≡ self.now.own }
-    {
-        self.own
-    }
-
-    pub(crate) fn cpu(&self) -> Cpu
-        ensures { result ≡ self.now.cpu }
-    {
-        self.cpu
-    }
-
-    pub(crate) fn calls(&self) -> &[Call]
-        ensures { result.now ≡ self.now.calls }
-    {
-        self.calls.as_slice()
-    }
-
-    /// Adds a call behind the others. An `Err` changes nothing.
+    /// Adds a call after the others. An `Err` changes nothing.
     pub(crate) fn push_call(&mut self, call: Call) -> Result<(), AllocError>
         ensures ok { OnOk result (self.new ≡ record self.old { calls = self.old.calls ++ call ∷ [] }) }
         ensures err { OnErr result (self.new ≡ self.old) }

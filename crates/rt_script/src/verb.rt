@@ -1,5 +1,5 @@
 ghost use Rattle.std.specs.Prelude.{◌≡◌};
-ghost use Rattle.rt_script.specs.Grammar.{lock_verb_of, other_verb_of, verb_of};
+ghost use Rattle.rt_script.specs.Spelling.{lock_verb_spelled, verb_spelled};
 
 /// The name of a call on a lock.
 #[derive(Clone, Copy, Debug)]
@@ -34,10 +34,35 @@ pub(crate) enum Verb {
     Move,
 }
 
+impl Verb {
+    /// The call that a word spells.
+    pub(crate) fn read(word: &[u8]) -> Option<Verb>
+        ensures { result ≡ verb_spelled word.now }
+    {
+        if let Some(verb) = LockVerb::read(word) {
+            Some(Verb::OnLock(verb))
+        } else if word == b"state".as_slice() {
+            Some(Verb::State)
+        } else if word == b"schedule".as_slice() {
+            Some(Verb::Schedule)
+        } else if word == b"wake".as_slice() {
+            Some(Verb::Wake)
+        } else if word == b"signal".as_slice() {
+            Some(Verb::Signal)
+        } else if word == b"setprio".as_slice() {
+            Some(Verb::SetPrio)
+        } else if word == b"move".as_slice() {
+            Some(Verb::Move)
+        } else {
+            None
+        }
+    }
+}
+
 impl LockVerb {
     /// The call on a lock that a word spells.
     fn read(word: &[u8]) -> Option<LockVerb>
-        ensures { result ≡ lock_verb_of word.now }
+        ensures { result ≡ lock_verb_spelled word.now }
     {
         if word == b"lock".as_slice() {
             Some(LockVerb::Lock)
@@ -73,39 +98,6 @@ impl LockVerb {
             Some(LockVerb::Unlocal)
         } else {
             None
-        }
-    }
-}
-
-impl Verb {
-    /// The call that a word spells, where it is one on something else than a lock.
-    fn read_other(word: &[u8]) -> Option<Verb>
-        ensures { result ≡ other_verb_of word.now }
-    {
-        if word == b"state".as_slice() {
-            Some(Verb::State)
-        } else if word == b"schedule".as_slice() {
-            Some(Verb::Schedule)
-        } else if word == b"wake".as_slice() {
-            Some(Verb::Wake)
-        } else if word == b"signal".as_slice() {
-            Some(Verb::Signal)
-        } else if word == b"setprio".as_slice() {
-            Some(Verb::SetPrio)
-        } else if word == b"move".as_slice() {
-            Some(Verb::Move)
-        } else {
-            None
-        }
-    }
-
-    /// The call that a word spells.
-    pub(crate) fn read(word: &[u8]) -> Option<Verb>
-        ensures { result ≡ verb_of word.now }
-    {
-        match LockVerb::read(word) {
-            Some(verb) => Some(Verb::OnLock(verb)),
-            None => Verb::read_other(word),
         }
     }
 }

@@ -213,7 +213,7 @@ fn driver_nesting(alloc: Global) -> Result<String, Fail> {
     Ok(text)
 }
 
-// Task t takes mutex j and the one behind it, and gives both back.
+// Task t takes mutex j and the one after it, and gives both back.
 fn nested_pair(alloc: Global, t: u32, j: u32) -> Result<String, Fail> {
     let next = if j < 40 { j + 1 } else { 0 };
     Ok(format!(in alloc;

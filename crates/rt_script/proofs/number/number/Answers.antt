@@ -6,8 +6,8 @@ use Rattle.rt_script.proofs.number.number.Goals as goal
 pub returns-then-is_empty : goal.returns-then-is_empty
 returns-then-is_empty c = grind (arith, common_steps, number_upto-empty)
 
-pub returns-then-leads_with_zero : goal.returns-then-leads_with_zero
-returns-then-leads_with_zero c = grind (arith, common_steps, number_upto-zero)
+pub returns-then-word-eq48-clause-value : goal.returns-then-word-eq48-clause-value
+returns-then-word-eq48-clause-value c = grind (arith, common_steps, number_upto-zero)
 
 pub returns : goal.returns
 returns c = grind (arith, common_steps, number_upto-digits)

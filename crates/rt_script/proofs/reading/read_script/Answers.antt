@@ -1,6 +1,6 @@
 use Rattle.std.proofs.Common.{◌==◌, sym, ap, ◌∙◌, length, arith}
 use Rattle.std.proofs.lemmas.Slice.Eq.{bytes_eq-Decides}
-use Rattle.rt_script.proofs.Pieces.{pieces_fit}
+use Rattle.rt_script.proofs.Splits.{pieces_fit}
 use Rattle.rt_script.proofs.reading.read_script.Goals as goal
 
 pub read_lines-requires : goal.read_lines-requires

@@ -1,11 +1,11 @@
 use Rattle.std.proofs.Common.{◌≡◌, ◌∷◌, ◌++◌, [], ◌+◌, length, refl, sym, ◌∙◌, ap, arith}
 use Rattle.std.proofs.lemmas.Option.{slice_get_read}
 use Rattle.rt_base.specs.Script.{Script, task_line}
-use Rattle.rt_script.specs.Fields.{script_of_fields}
+use Rattle.rt_script.specs.ScriptFields.{script_of_fields}
 use Rattle.rt_script.proofs.Growth.{IsScript-with_call}
 use Rattle.rt_script.proofs.script.Script.push_call.Goals as goal
 
--- the task with the call behind its others
+-- the task with the call after its others
 called : (c : goal.After-self-2-1) → c.push_call.new.self ≡ record (task_line (script_of_fields c.self.inside) c.args.t) { calls = (task_line (script_of_fields c.self.inside) c.args.t).calls ++ c.args.call ∷ [] }
 called c =
     let items = c.self.inside.tasks.items in

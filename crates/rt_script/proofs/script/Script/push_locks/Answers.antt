@@ -1,5 +1,5 @@
 use Rattle.rt_base.specs.Script.{Script}
-use Rattle.rt_script.specs.Fields.{script_of_fields}
+use Rattle.rt_script.specs.ScriptFields.{script_of_fields}
 use Rattle.rt_script.proofs.Growth.{IsScript-with_locks}
 use Rattle.rt_script.proofs.script.Script.push_locks.Goals as goal
 

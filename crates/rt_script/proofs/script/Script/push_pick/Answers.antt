@@ -1,6 +1,6 @@
 use Rattle.std.proofs.Common.{arith}
 use Rattle.rt_base.specs.Script.{Script}
-use Rattle.rt_script.specs.Fields.{script_of_fields}
+use Rattle.rt_script.specs.ScriptFields.{script_of_fields}
 use Rattle.rt_script.proofs.Growth.{IsScript-with_pick}
 use Rattle.rt_script.proofs.script.Script.push_pick.Goals as goal
 

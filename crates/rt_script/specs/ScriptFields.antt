@@ -1,0 +1,34 @@
+-- How the fields of scripts, drafts and pieces hold them.
+use Rattle.std.specs.Prelude.{◌≡◌, ◌==◌, ℕ, false, List, [], Option, Some, None}
+use Rattle.std.specs.List.{slice_split}
+use denote.Ref.{Bor}
+use Rattle.rt_base.specs.Script.{Script, all_calls, IsScript}
+use Rattle.rt_script.specs.declared.script.Script.TheInside.{Inside}
+use Rattle.rt_script.specs.declared.draft.Draft.TheInside.{Inside as DraftFields}
+use Rattle.rt_script.specs.Adding.{empty_script}
+use Rattle.rt_script.specs.Lines.{SoFar}
+use Rattle.rt_script.specs.Names.{named}
+use Rattle.indexmap.specs.IndexMap.{get_by_text}
+
+-- the script that the fields hold
+abbrev pub script_of_fields : Inside → Script
+script_of_fields s = record { cpus = s.cpus; tasks = s.tasks.items; locks = s.locks.items; picks = s.picks.items }
+
+-- the fields hold a script, and the count of its calls
+pub record AreFields (s : Inside) : Type 0 where
+  pub script : IsScript (script_of_fields s)
+  pub calls : s.all_calls ≡ all_calls (script_of_fields s)
+
+-- the pieces of what is left of a text, cut at a byte
+abbrev pub pieces_left : ℕ → Option (Bor (List ℕ)) → List (List ℕ)
+pieces_left separator None = []
+pieces_left separator (Some rest) = slice_split (λ b. b == separator) rest.now
+
+-- what a draft has read
+abbrev pub so_far_of_draft : DraftFields → SoFar
+so_far_of_draft d = record { script = d.script; begun = d.begun }
+
+-- the map has the names of the script, each with what it stands for; before the first line there is nothing
+pub record HasNames (d : DraftFields) : Type 0 where
+  pub each : (name : List ℕ) → get_by_text d.names name ≡ named d.script name
+  pub empty : d.begun ≡ false → d.script ≡ empty_script

@@ -2,7 +2,7 @@
 ghost use Rattle.std.specs.Prelude.{None};
 
 use crate::rtlab;
-use crate::tests::{INVERSION, INVERSION_JOURNAL, long_script, too_long, words};
+use crate::test_replays::{INVERSION, INVERSION_JOURNAL, long_script, too_long, words};
 use rt_base::{AlwaysGo, Failed, MemSink, MemSource, PlainSink, PlainSource, Sink, Source};
 use std::alloc::Global;
 use std::process::Abort;

@@ -8,13 +8,19 @@ mod options;
 mod order;
 mod playing;
 mod printing;
+#[cfg(test)]
+mod printing_tests;
 mod progress;
 mod replaying;
 mod reporting;
+#[cfg(test)]
+mod row_tests;
 mod status;
 #[cfg(test)]
-mod tests;
+mod test_replays;
 mod top;
+#[cfg(test)]
+mod waiter_tests;
 mod words;
 #[cfg(test)]
 mod words_tests;

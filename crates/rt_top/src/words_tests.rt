@@ -1,6 +1,6 @@
 // Which words are taken, what is refused, and what is written then.
 use crate::rtlab;
-use crate::tests::{
+use crate::test_replays::{
     INVERSION, INVERSION_JOURNAL, ONE_MUTEX, compare_replays, source, too_long, words,
 };
 use rt_base::{AlwaysGo, MemSink, MemSource, PlainSink};

@@ -1,151 +1,7 @@
-// The program over sources and sinks in memory.
-ghost use Rattle.std.specs.Prelude.{None};
-
-use super::rtlab;
-use rt_base::{AlwaysGo, Failed, PlainSink, PlainSource, Sink};
+// Who waits, who is woken, and who gets a lock that is given up.
+use crate::test_replays::compare_replays;
 use std::alloc::{AllocError, Global};
-use std::process::Abort;
 use std::test::Fail;
-use std::thread::Threads;
-
-const HEADER: &[u8] = b"rtscript 1\n";
-
-/// What is written for a script that isn't played yet.
-const NOT_PLAYED: &[u8] = b"bad script: line 0, fault 8\n";
-
-/// A sink that takes every piece and counts them.
-#[derive(Drop)]
-struct CountingSink {
-    pieces: u32,
-}
-
-impl Sink for CountingSink {
-    ghost held = { λ _. None };
-
-    ghost faults = { λ _. 0 };
-
-    fn write(&mut self, piece: &[u8]) -> Result<usize, Failed> {
-        self.pieces = self.pieces.saturating_add(1);
-        Ok(piece.len())
-    }
-}
-
-/// The words of a command.
-pub(crate) fn words(alloc: Global, texts: &[&str]) -> Result<Vec<String>, AllocError> {
-    let mut words = Vec::new(alloc);
-    for text in texts {
-        words.push(String::from_str(alloc, text)?)?;
-    }
-    Ok(words)
-}
-
-/// A text as a source.
-pub(crate) fn source(alloc: Global, text: &[u8]) -> Result<PlainSource, AllocError> {
-    Ok(PlainSource::new(text.to_vec(alloc)?))
-}
-
-pub(crate) const ONE_MUTEX: &[u8] =
-    b"rtscript 1\ntask a 50 0\nlock m mutex\ncall a lock m\ncall a unlock m\ngo\n";
-
-pub(crate) const INVERSION: &[u8] = b"rtscript 1\ntask a 90 0\ntask c 10 0\nlock m mutex\n\
-      call a lock m\ncall a unlock m\n\
-      call c lock m\ncall c unlock m\n\
-      pick a\npick c\npick c\ngo\n";
-
-pub(crate) const INVERSION_JOURNAL: &[u8] = b"rtjournal 1\n\
-      1 a fast m -> got\n\
-      2 c mark m\n\
-      3 c wait m a=10\n\
-      4 a give m c a=90 -> done\n\
-      5 c take m -> got\n\
-      6 c free m -> done\n\
-      end done\n\
-      task a 90 90 R R 2/2 end\n\
-      task c 10 10 R R 2/2 end\n\
-      lock m - 0\n";
-
-/// Replays each script, and compares what is written and the status.
-pub(crate) fn compare_replays<R: Abort + Threads + Sync>(
-    rt: &R,
-    alloc: Global,
-    replays: &[(&[u8], &[u8], u8)],
-) -> Result<(), Fail> {
-    let replay = words(alloc, &["replay"])?;
-    for (text, printed, status) in replays {
-        let mut src = source(alloc, text)?;
-        let mut out = PlainSink::with_room(alloc, 1000).ok().ok_or("no memory")?;
-        assert_eq!(rt;
-            rtlab(rt, alloc, &replay, &mut src, &mut out, &AlwaysGo),
-            *status
-        );
-        assert_eq!(rt; out.bytes(), *printed);
-    }
-    Ok(())
-}
-
-#[test]
-fn rows_of_one_task(rt: HostRuntime) -> Result<(), Fail> {
-    let alloc = rt.alloc();
-    let rows: [(&[u8], &[u8], u8); 6] = [
-        // empty
-        (b"rtscript 1\ngo\n", b"rtjournal 1\nend done\n", 0),
-        // one_mutex
-        (
-            ONE_MUTEX,
-            b"rtjournal 1\n1 a fast m -> got\n2 a free m -> done\nend done\ntask a 50 50 R R 2/2 end\nlock m - 0\n",
-            0,
-        ),
-        // a header alone
-        (HEADER, b"bad script: line 2, fault 10\n", 3),
-        // a pick of a task at its end is passed over
-        (
-            b"rtscript 1\ntask a 50 0\nlock m mutex\ncall a lock m\npick a\npick a\ngo\n",
-            b"rtjournal 1\n1 a fast m -> got\nend done\ntask a 50 50 R R 1/1 end\nlock m a 0\n",
-            0,
-        ),
-        // a release of what isn't held
-        (
-            b"rtscript 1\ntask a 139 0\nlock m mutex\ncall a unlock m\ngo\n",
-            b"rtjournal 1\n1 a own m -> notowner\nend done\ntask a 139 139 R R 1/1 end\nlock m - 0\n",
-            0,
-        ),
-        // a lock that is taken twice
-        (
-            b"rtscript 1\ntask a 0 0\nlock m mutex\ncall a lock m\ncall a lock m\ngo\n",
-            b"rtjournal 1\n1 a fast m -> got\n2 a own m -> deadlock\nend done\ntask a 0 0 R R 2/2 end\nlock m a 0\n",
-            0,
-        ),
-    ];
-    compare_replays(&rt, alloc, &rows)
-}
-
-#[test]
-fn rows_of_two_tasks(rt: HostRuntime) -> Result<(), Fail> {
-    let alloc = rt.alloc();
-    let rows: [(&[u8], &[u8], u8); 2] = [
-        // inversion
-        (INVERSION, INVERSION_JOURNAL, 0),
-        // bit_without_waiters
-        (
-            b"rtscript 1\ntask a 50 0\ntask c 50 0\nlock m mutex\n\
-              call a lock m\ncall a unlock m\n\
-              call c lock m\ncall c unlock m\n\
-              pick a\npick c\npick a\ngo\n",
-            b"rtjournal 1\n\
-              1 a fast m -> got\n\
-              2 c mark m\n\
-              3 a give m - -> done\n\
-              4 c take m -> got\n\
-              5 c free m -> done\n\
-              end done\n\
-              task a 50 50 R R 2/2 end\n\
-              task c 50 50 R R 2/2 end\n\
-              lock m - 0\n",
-            0,
-        ),
-    ];
-    compare_replays(&rt, alloc, &rows)
-}
 
 #[test]
 fn who_gets_a_released_lock(rt: HostRuntime) -> Result<(), Fail> {
@@ -366,19 +222,6 @@ fn stuck_waiters_and_refused_calls(rt: HostRuntime) -> Result<(), Fail> {
     compare_replays(&rt, alloc, &rows)
 }
 
-/// The text with a priority in the place of each `#`.
-fn with_priority(alloc: Global, text: &[u8], prio: &[u8]) -> Result<Vec<u8>, AllocError> {
-    let mut filled = Vec::new(alloc);
-    for byte in text {
-        if *byte == b'#' {
-            filled.extend_from_slice(prio)?;
-        } else {
-            filled.push(*byte)?;
-        }
-    }
-    Ok(filled)
-}
-
 // With 120 this is the row equal_at_mutex_waits.
 #[test]
 fn equal_task_never_steals_a_mutex(rt: HostRuntime) -> Result<(), Fail> {
@@ -413,71 +256,15 @@ fn equal_task_never_steals_a_mutex(rt: HostRuntime) -> Result<(), Fail> {
     Ok(())
 }
 
-// What a script may have beside the lines that are played, and what isn't played yet.
-#[test]
-fn which_scripts_are_played(rt: HostRuntime) -> Result<(), Fail> {
-    let rows: [(&[u8], &[u8], u8); 6] = [
-        // comments, empty lines, processors, lines that are mixed, and no line feed at the end
-        (
-            b"rtscript 1\n\n# two processors\ncpus 2\nlock m mutex\ntask a 50 1\ncall a lock m\n#\npick a\ntask b 60 0\ncall a unlock m\ngo",
-            b"rtjournal 1\n1 a fast m -> got\n2 a free m -> done\nend done\ntask a 50 50 R R 2/2 end\ntask b 60 60 R R 0/0 end\nlock m - 0\n",
-            0,
-        ),
-        // no lock at all
-        (
-            b"rtscript 1\ntask a 5 0\npick a\ngo\n",
-            b"rtjournal 1\nend done\ntask a 5 5 R R 0/0 end\n",
-            0,
-        ),
-        // a lock of another kind, two mutexes, other calls of a mutex, and a call on no lock
-        (b"rtscript 1\nlock s spin\ngo\n", NOT_PLAYED, 3),
-        (
-            b"rtscript 1\nlock m mutex\nlock n mutex\ngo\n",
-            NOT_PLAYED,
-            3,
-        ),
-        (
-            b"rtscript 1\ntask a 5 0\nlock m mutex\ncall a trylock m\ngo\n",
-            NOT_PLAYED,
-            3,
-        ),
-        (
-            b"rtscript 1\ntask a 5 0\ncall a schedule\ngo\n",
-            NOT_PLAYED,
-            3,
-        ),
-    ];
-    compare_replays(&rt, rt.alloc(), &rows)
-}
-
-/// An input that is longer than a script may be, by one byte.
-pub(crate) fn too_long(alloc: Global) -> Result<Vec<u8>, AllocError> {
-    vec![in alloc; b'\n'; 1_048_577]
-}
-
-/// A script whose one task locks and unlocks a mutex so many times.
-pub(crate) fn long_script(alloc: Global, times: u32) -> Result<Vec<u8>, AllocError> {
-    let mut text = b"rtscript 1\ntask a 50 0\nlock m mutex\n".to_vec(alloc)?;
-    for _ in 0..times {
-        text.extend_from_slice(b"call a lock m\ncall a unlock m\n")?;
+/// The text with a priority in the place of each `#`.
+fn with_priority(alloc: Global, text: &[u8], prio: &[u8]) -> Result<Vec<u8>, AllocError> {
+    let mut filled = Vec::new(alloc);
+    for byte in text {
+        if *byte == b'#' {
+            filled.extend_from_slice(prio)?;
+        } else {
+            filled.push(*byte)?;
+        }
     }
-    text.extend_from_slice(b"go\n")?;
-    Ok(text)
-}
-
-#[test]
-fn lines_are_handed_over_together(rt: HostRuntime) -> Result<(), Fail> {
-    let alloc = rt.alloc();
-    let replay = words(alloc, &["replay"])?;
-    // Header, events and report are handed over apart, and 90 KB of events in two pieces.
-    for (times, pieces) in [(1, 3), (2000, 4)] {
-        let mut src = PlainSource::new(long_script(alloc, times)?);
-        let mut out = CountingSink { pieces: 0 };
-        assert_eq!(rt;
-            rtlab(&rt, alloc, &replay, &mut src, &mut out, &AlwaysGo),
-            0
-        );
-        assert_eq!(rt; out.pieces, pieces);
-    }
-    Ok(())
+    Ok(filled)
 }

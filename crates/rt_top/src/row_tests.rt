@@ -1,0 +1,109 @@
+// Worked scripts of one and two tasks, and which scripts are played.
+use crate::test_replays::{INVERSION, INVERSION_JOURNAL, ONE_MUTEX, compare_replays};
+use std::test::Fail;
+
+const HEADER: &[u8] = b"rtscript 1\n";
+
+/// What is written for a script that isn't played yet.
+const NOT_PLAYED: &[u8] = b"bad script: line 0, fault 8\n";
+
+#[test]
+fn rows_of_one_task(rt: HostRuntime) -> Result<(), Fail> {
+    let alloc = rt.alloc();
+    let rows: [(&[u8], &[u8], u8); 6] = [
+        // empty
+        (b"rtscript 1\ngo\n", b"rtjournal 1\nend done\n", 0),
+        // one_mutex
+        (
+            ONE_MUTEX,
+            b"rtjournal 1\n1 a fast m -> got\n2 a free m -> done\nend done\ntask a 50 50 R R 2/2 end\nlock m - 0\n",
+            0,
+        ),
+        // a header alone
+        (HEADER, b"bad script: line 2, fault 10\n", 3),
+        // a pick of a task at its end is passed over
+        (
+            b"rtscript 1\ntask a 50 0\nlock m mutex\ncall a lock m\npick a\npick a\ngo\n",
+            b"rtjournal 1\n1 a fast m -> got\nend done\ntask a 50 50 R R 1/1 end\nlock m a 0\n",
+            0,
+        ),
+        // a release of what isn't held
+        (
+            b"rtscript 1\ntask a 139 0\nlock m mutex\ncall a unlock m\ngo\n",
+            b"rtjournal 1\n1 a own m -> notowner\nend done\ntask a 139 139 R R 1/1 end\nlock m - 0\n",
+            0,
+        ),
+        // a lock that is taken twice
+        (
+            b"rtscript 1\ntask a 0 0\nlock m mutex\ncall a lock m\ncall a lock m\ngo\n",
+            b"rtjournal 1\n1 a fast m -> got\n2 a own m -> deadlock\nend done\ntask a 0 0 R R 2/2 end\nlock m a 0\n",
+            0,
+        ),
+    ];
+    compare_replays(&rt, alloc, &rows)
+}
+
+#[test]
+fn rows_of_two_tasks(rt: HostRuntime) -> Result<(), Fail> {
+    let alloc = rt.alloc();
+    let rows: [(&[u8], &[u8], u8); 2] = [
+        // inversion
+        (INVERSION, INVERSION_JOURNAL, 0),
+        // bit_without_waiters
+        (
+            b"rtscript 1\ntask a 50 0\ntask c 50 0\nlock m mutex\n\
+              call a lock m\ncall a unlock m\n\
+              call c lock m\ncall c unlock m\n\
+              pick a\npick c\npick a\ngo\n",
+            b"rtjournal 1\n\
+              1 a fast m -> got\n\
+              2 c mark m\n\
+              3 a give m - -> done\n\
+              4 c take m -> got\n\
+              5 c free m -> done\n\
+              end done\n\
+              task a 50 50 R R 2/2 end\n\
+              task c 50 50 R R 2/2 end\n\
+              lock m - 0\n",
+            0,
+        ),
+    ];
+    compare_replays(&rt, alloc, &rows)
+}
+
+// What a script may have beside the lines that are played, and what isn't played yet.
+#[test]
+fn which_scripts_are_played(rt: HostRuntime) -> Result<(), Fail> {
+    let rows: [(&[u8], &[u8], u8); 6] = [
+        // comments, empty lines, processors, lines that are mixed, and no line feed at the end
+        (
+            b"rtscript 1\n\n# two processors\ncpus 2\nlock m mutex\ntask a 50 1\ncall a lock m\n#\npick a\ntask b 60 0\ncall a unlock m\ngo",
+            b"rtjournal 1\n1 a fast m -> got\n2 a free m -> done\nend done\ntask a 50 50 R R 2/2 end\ntask b 60 60 R R 0/0 end\nlock m - 0\n",
+            0,
+        ),
+        // no lock at all
+        (
+            b"rtscript 1\ntask a 5 0\npick a\ngo\n",
+            b"rtjournal 1\nend done\ntask a 5 5 R R 0/0 end\n",
+            0,
+        ),
+        // a lock of another kind, two mutexes, other calls of a mutex, and a call on no lock
+        (b"rtscript 1\nlock s spin\ngo\n", NOT_PLAYED, 3),
+        (
+            b"rtscript 1\nlock m mutex\nlock n mutex\ngo\n",
+            NOT_PLAYED,
+            3,
+        ),
+        (
+            b"rtscript 1\ntask a 5 0\nlock m mutex\ncall a trylock m\ngo\n",
+            NOT_PLAYED,
+            3,
+        ),
+        (
+            b"rtscript 1\ntask a 5 0\ncall a schedule\ngo\n",
+            NOT_PLAYED,
+            3,
+        ),
+    ];
+    compare_replays(&rt, rt.alloc(), &rows)
+}

@@ -7,7 +7,7 @@ use Rattle.rt_base.specs.declared.id.LockId.{LockId}
 use Rattle.rt_base.specs.declared.id.Cpu.{Cpu}
 use Rattle.rt_base.specs.declared.kind.Kind.{Kind}
 use Rattle.rt_base.specs.declared.kind.Kind.TheVariants as kinds
-use Rattle.rt_base.specs.declared.limits.TheConstants.{MAX_TASKS, MAX_LOCKS, MAX_CALLS, MAX_PICKS, MAX_PRIO, MAX_CPUS}
+use Rattle.rt_base.specs.declared.limits.TheConstants.{MAX_TASKS, MAX_LOCKS, MAX_CALLS, MAX_PICKS, MAX_PRIO, MAX_CPUS, BUDGET_FACTOR}
 use Rattle.rt_base.specs.declared.state.TaskState.TheVariants.{LockWait}
 use Rattle.rt_base.specs.Name.{is_name}
 
@@ -45,7 +45,7 @@ all_calls script = sum (map (λ (t : TaskLine). length t.calls) script.tasks)
 
 -- how many events the stated order is given where no number is named
 abbrev pub budget_of : Script → ℕ
-budget_of script = 16 * (length script.tasks + 2) * (length script.tasks + all_calls script + 2)
+budget_of script = BUDGET_FACTOR * (length script.tasks + 2) * (length script.tasks + all_calls script + 2)
 
 -- ---- names
 

@@ -1,4 +1,4 @@
-//! How much a script may have, and what follows from it for texts.
+//! How much a script may have, and how long its texts are.
 
 /// The most tasks.
 pub const MAX_TASKS: usize = 64;
@@ -20,6 +20,18 @@ pub const MAX_REALTIME: u8 = 99;
 
 /// The most processors.
 pub const MAX_CPUS: u8 = 8;
+
+/// The greatest processor.
+pub const MAX_CPU: u8 = 7;
+
+/// The most characters of a name.
+pub const MAX_NAME: usize = 16;
+
+/// The factor of the budget of events, which grows as the tasks and as their calls.
+pub const BUDGET_FACTOR: u64 = 16;
+
+/// A text is shorter, in bytes, so that its lines can be numbered.
+pub const TEXT_LIMIT: u32 = 4_294_967_295;
 
 /// A line of a journal or a report, with its line feed, is shorter, in bytes.
 pub const MAX_LINE: usize = 4096;

@@ -27,7 +27,11 @@ impl Prio {
         ensures none { IsNone result ↔ (MAX_PRIO < n) }
         ensures value { IfSome result (λ p. p ≡ n) }
     {
-        if n <= MAX_PRIO as u64 { Some(Prio(n as u8)) } else { None }
+        if n <= MAX_PRIO as u64 {
+            Some(Prio(n as u8))
+        } else {
+            None
+        }
     }
 
     /// Its number.

@@ -1,5 +1,6 @@
 -- The value of a lock's cell: its owner part, with the number of tasks.
 use Rattle.std.specs.Prelude.{ℕ, ◌<◌, ◌≤◌, List, All}
+use Rattle.rt_base.specs.declared.limits.TheConstants.{MAX_PRIO}
 use Rattle.rt_model.specs.declared.row.Row.{Row}
 use Rattle.rt_model.specs.Parts.{OwnerPart}
 
@@ -10,7 +11,7 @@ pub record OwnerCell : Type 0 where
 
 -- each row's key is a priority
 abbrev pub HasPriorities : List Row → Type 0
-HasPriorities rows = All (λ (row : Row). row.key ≤ 139) rows
+HasPriorities rows = All (λ (row : Row). row.key ≤ MAX_PRIO) rows
 
 -- each row's ticket is below the next one
 abbrev pub HasTickets : ℕ → List Row → Type 0

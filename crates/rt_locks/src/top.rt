@@ -3,12 +3,13 @@ ghost use Rattle.rt_model.specs.laws.Rows.{IsAhead};
 ghost use Rattle.rt_model.specs.Rows.{task_of, top_waiter, without};
 ghost use Rattle.rt_locks.specs.Top.{is_first, is_same};
 
+use rt_base::limits::MAX_PRIO;
 use rt_base::{Prio, TaskId};
 use rt_model::Row;
 
 // The priority of a row.
 pub fn key_in(row: Option<Row>) -> Option<Prio>
-    requires { IfSome row (λ r. r.key ≤ 139) }
+    requires { IfSome row (λ r. r.key ≤ MAX_PRIO) }
     ensures { result ≡ option_map (λ r. r.key) row }
 {
     match row {

@@ -9,7 +9,7 @@ use Rattle.rt_base.specs.declared.id.TaskId.{TaskId}
 use Rattle.rt_base.specs.declared.id.LockId.{LockId}
 use Rattle.rt_base.specs.Script.{Script, TaskLine, LockLine, task_line, all_calls, IsLockOf, IsMutex, IsSpin, IsReaderLock, IsLocal, IsCallOf, IsTaskOf, IsLockWithin, IsScript}
 use Rattle.rt_script.specs.Adding.{with_task, with_locks, with_call, with_pick}
-use Rattle.rt_script.specs.Limits.{max_calls, max_locks, max_picks, max_tasks}
+use Rattle.rt_base.specs.declared.limits.TheConstants.{MAX_CALLS, MAX_LOCKS, MAX_PICKS, MAX_TASKS}
 use Rattle.rt_script.specs.Names.{named, AreNewLocks}
 use Rattle.rt_script.proofs.Cells.{fit_of}
 use Rattle.rt_script.proofs.ScriptParts.{no_task, task_at, task_fits, IsLockOf-append}
@@ -63,7 +63,7 @@ all_calls-with_task s line e =
     let none : f line ≡ 0 = ap length e in
     omega (arith, sum-map f s.tasks, sum-map f (s.tasks ++ line ∷ []), sum_by_push f s.tasks line, none)
 
-pub IsScript-with_task : (s : Script) (line : TaskLine) → IsScript s → length s.tasks < max_tasks → IsTaskOf s line → line.calls ≡ [] → named s line.name ≡ None → IsScript (with_task s line) × (all_calls (with_task s line) ≡ all_calls s)
+pub IsScript-with_task : (s : Script) (line : TaskLine) → IsScript s → length s.tasks < MAX_TASKS → IsTaskOf s line → line.calls ≡ [] → named s line.name ≡ None → IsScript (with_task s line) × (all_calls (with_task s line) ≡ all_calls s)
 IsScript-with_task s line h room fits none free =
     let more : length (s.tasks ++ line ∷ []) ≡ length s.tasks + 1 = omega (arith, length-append s.tasks (line ∷ [])) in
     let n : Script = with_task s line in
@@ -87,7 +87,7 @@ IsScript-with_task s line h room fits none free =
 
 -- ---- locks more
 
-pub IsScript-with_locks : (s : Script) (lines : List LockLine) (key : List ℕ) → IsScript s → length s.locks + length lines ≤ max_locks → AreNewLocks s key lines → IsScript (with_locks s lines)
+pub IsScript-with_locks : (s : Script) (lines : List LockLine) (key : List ℕ) → IsScript s → length s.locks + length lines ≤ MAX_LOCKS → AreNewLocks s key lines → IsScript (with_locks s lines)
 IsScript-with_locks s lines key h room new =
     let n : Script = with_locks s lines in
     let k : Keeps s n = record { cpus = refl; tasks = omega arith; locks = λ fits l h. IsLockOf-append s.locks lines l.0 fits h } in
@@ -107,7 +107,7 @@ IsScript-with_locks s lines key h room new =
 
 -- ---- a call more
 
-pub IsScript-with_call : (s : Script) (t : TaskId) (call : Call) → IsScript s → t.0 < length s.tasks → all_calls s < max_calls → IsCallOf s call → IsScript (with_call s t call) × (all_calls (with_call s t call) ≡ all_calls s + 1)
+pub IsScript-with_call : (s : Script) (t : TaskId) (call : Call) → IsScript s → t.0 < length s.tasks → all_calls s < MAX_CALLS → IsCallOf s call → IsScript (with_call s t call) × (all_calls (with_call s t call) ≡ all_calls s + 1)
 IsScript-with_call s t call h in' room fits =
     let d : TaskLine = no_task in
     let line : TaskLine = task_line s t in
@@ -140,7 +140,7 @@ IsScript-with_call s t call h in' room fits =
 
 -- ---- a pick more
 
-pub IsScript-with_pick : (s : Script) (t : TaskId) → IsScript s → t.0 < length s.tasks → length s.picks < max_picks → IsScript (with_pick s t)
+pub IsScript-with_pick : (s : Script) (t : TaskId) → IsScript s → t.0 < length s.tasks → length s.picks < MAX_PICKS → IsScript (with_pick s t)
 IsScript-with_pick s t h in' room = record {
   cpus = h.cpus;
   tasks = h.tasks;

@@ -22,7 +22,7 @@ use Rattle.rt_script.specs.declared.verb.LockVerb.TheVariants as on
 use Rattle.rt_script.specs.Canonical.{on_lock, on_task, call_words}
 use Rattle.rt_script.specs.Calls.{call_form, reading_call, call_on, call_in}
 use Rattle.rt_script.specs.Spelling.{cpu_spelled, verb_spelled}
-use Rattle.rt_script.specs.Limits.{max_cpu, max_cpus, max_prio}
+use Rattle.rt_base.specs.declared.limits.TheConstants.{MAX_CPU, MAX_CPUS, MAX_PRIO}
 use Rattle.rt_script.specs.Names.{task_named, lock_named}
 use Rattle.rt_script.specs.Words.{number_upto}
 use Rattle.rt_script.proofs.ScriptParts.{task_fits, lock_fits, IsLockOf-to}
@@ -130,10 +130,10 @@ wake_says p s h has t within = task_says p s h has t (codes "wake") (forms.Wake 
 signal_says : (p s : Script) → IsScript s → HasAll p s → (t : TaskId) → t.0 < length s.tasks → Says p (on_task s (codes "signal") t) (calls.Signal t)
 signal_says p s h has t within = task_says p s h has t (codes "signal") (forms.Signal (task_line s t).name) (calls.Signal t) refl within refl (λ known. rw known refl)
 
-prio_says : (p s : Script) → IsScript s → HasAll p s → (t : TaskId) (prio : ℕ) → t.0 < length s.tasks → prio ≤ max_prio → Says p (on_task s (codes "setprio") t ++ decimal prio ∷ []) (calls.SetPrio t prio)
+prio_says : (p s : Script) → IsScript s → HasAll p s → (t : TaskId) (prio : ℕ) → t.0 < length s.tasks → prio ≤ MAX_PRIO → Says p (on_task s (codes "setprio") t ++ decimal prio ∷ []) (calls.SetPrio t prio)
 prio_says p s h has t prio within small =
     let known : task_named p (task_line s t).name ≡ Some t = task_is_known p s h.names t within has.names in
-    let number : number_upto max_prio (decimal prio) ≡ Some prio = number_read max_prio prio small (omega arith) in
+    let number : number_upto MAX_PRIO (decimal prio) ≡ Some prio = number_read MAX_PRIO prio small (omega arith) in
     record {
       plain = both _ _ refl (both _ _ (named_word s t h within) (both _ _ (word_of_number prio (omega arith)) refl));
       few = refl;
@@ -142,9 +142,9 @@ prio_says p s h has t prio within small =
       gives = rw (known, number) refl;
     }
 
-pub cpu_read : (p : Script) (cpu : Cpu) → cpu.0 < p.cpus → p.cpus ≤ max_cpus → cpu_spelled p (decimal cpu.0) ≡ Some cpu
+pub cpu_read : (p : Script) (cpu : Cpu) → cpu.0 < p.cpus → p.cpus ≤ MAX_CPUS → cpu_spelled p (decimal cpu.0) ≡ Some cpu
 cpu_read p cpu within few =
-    let number : number_upto max_cpu (decimal cpu.0) ≡ Some cpu.0 = number_read max_cpu cpu.0 (omega arith) (omega arith) in
+    let number : number_upto MAX_CPU (decimal cpu.0) ≡ Some cpu.0 = number_read MAX_CPU cpu.0 (omega arith) (omega arith) in
     let below : ltb cpu.0 p.cpus ≡ true = lt-ltb cpu.0 p.cpus within in
     rw (number, below) refl
 

@@ -7,14 +7,14 @@ use Rattle.rt_base.specs.declared.kind.Kind.{Kind}
 use Rattle.rt_base.specs.declared.kind.Kind.TheVariants as kinds
 use Rattle.rt_base.specs.Script.{Script, TaskLine, IsTaskOf}
 use Rattle.rt_script.specs.Canonical.{lock_kind_word}
-use Rattle.rt_script.specs.Limits.{max_cpus}
+use Rattle.rt_base.specs.declared.limits.TheConstants.{MAX_CPUS}
 use Rattle.rt_script.proofs.Tests.{both}
 use Rattle.rt_script.proofs.WrittenWords.{is_word, word_of_name, word_of_number}
 
-pub cpus_plain : (cpus : ℕ) → cpus ≤ max_cpus → list_all is_word (codes "cpus" ∷ decimal cpus ∷ []) ≡ true
+pub cpus_plain : (cpus : ℕ) → cpus ≤ MAX_CPUS → list_all is_word (codes "cpus" ∷ decimal cpus ∷ []) ≡ true
 cpus_plain cpus few = both _ _ refl (both _ _ (word_of_number cpus (omega (arith, few))) refl)
 
-pub task_plain : (s : Script) (t : TaskLine) → IsTaskOf s t → s.cpus ≤ max_cpus → list_all is_word (codes "task" ∷ t.name ∷ decimal t.own ∷ decimal t.cpu.0 ∷ []) ≡ true
+pub task_plain : (s : Script) (t : TaskLine) → IsTaskOf s t → s.cpus ≤ MAX_CPUS → list_all is_word (codes "task" ∷ t.name ∷ decimal t.own ∷ decimal t.cpu.0 ∷ []) ≡ true
 task_plain s t fits few =
     both _ _ refl (both _ _ (word_of_name t.name fits.name) (both _ _ (word_of_number t.own (omega (arith, fits.own))) (both _ _ (word_of_number t.cpu.0 (omega (arith, fits.cpu))) refl)))
 

@@ -11,7 +11,7 @@ use Rattle.rt_base.specs.declared.call.Call.{Call}
 use Rattle.rt_base.specs.declared.id.TaskId.{TaskId}
 use Rattle.rt_base.specs.Script.{Script, TaskLine, LockLine, task_line, IsScript, IsTaskOf, IsLockWithin, IsCallOf}
 use Rattle.rt_script.specs.Canonical.{lock_kind_word, call_words, cpus_text, task_text, lock_text, call_text, calls_text, pick_text, lined_locks, with_line_feed, canonical_lines, canonical}
-use Rattle.rt_script.specs.Limits.{max_cpus, text_limit}
+use Rattle.rt_base.specs.declared.limits.TheConstants.{MAX_CPUS, TEXT_LIMIT}
 use Rattle.rt_script.specs.Words.{is_printable}
 use Rattle.rt_script.proofs.ScriptParts.{task_fits}
 use Rattle.rt_script.proofs.Tests.{left, right, both}
@@ -49,10 +49,10 @@ joined p xs ys e f = list_all-append p xs ys ∙ both _ _ e f
 of_words : (first : List ℕ) (words : List (List ℕ)) → list_all is_word (first ∷ words) ≡ true → length words ≤ 5 → is_line (line_of first words) ≡ true
 of_words first words e few = both _ _ (printable_line first words e) (le-leb (length (line_of first words)) longest_line (omega (arith, length_line first words e)))
 
-cpus_line : (cpus : ℕ) → cpus ≤ max_cpus → is_line (cpus_text cpus) ≡ true
+cpus_line : (cpus : ℕ) → cpus ≤ MAX_CPUS → is_line (cpus_text cpus) ≡ true
 cpus_line cpus few = of_words (codes "cpus") (decimal cpus ∷ []) (cpus_plain cpus few) (omega arith)
 
-task_line_fits : (s : Script) → s.cpus ≤ max_cpus → (t : TaskLine) → IsTaskOf s t → is_line (task_text t) ≡ true
+task_line_fits : (s : Script) → s.cpus ≤ MAX_CPUS → (t : TaskLine) → IsTaskOf s t → is_line (task_text t) ≡ true
 task_line_fits s few t fits = of_words (codes "task") (t.name ∷ decimal t.own ∷ decimal t.cpu.0 ∷ []) (task_plain s t fits few) (omega arith)
 
 lock_line_fits : (cpus : ℕ) (l : LockLine) → IsLockWithin cpus l → is_line (lock_text l) ≡ true
@@ -122,5 +122,5 @@ few_lines s h =
       h.picks,
     )
 
-pub short : (s : Script) → IsScript s → length (canonical s) < text_limit
+pub short : (s : Script) → IsScript s → length (canonical s) < TEXT_LIMIT
 short s h = omega (arith, text_fits (canonical_lines s) (lines_fit s h), few_lines s h)

@@ -15,7 +15,7 @@ use Rattle.rt_base.specs.declared.kind.Kind.TheVariants as kinds
 use Rattle.rt_base.specs.Script.{Script, TaskLine, LockLine, task_line, all_calls, locks_of, locks_of_lines, IsScript, IsTaskOf, IsLockWithin, IsCallOf}
 use Rattle.rt_script.specs.Adding.{empty_script, with_task, with_locks, with_call, with_pick}
 use Rattle.rt_script.specs.Canonical.{lock_kind_word, call_words, cpus_text, task_text, call_text, pick_text, calls_text}
-use Rattle.rt_script.specs.Limits.{max_calls, max_cpus, max_locks, max_picks, max_prio, max_tasks}
+use Rattle.rt_base.specs.declared.limits.TheConstants.{MAX_CALLS, MAX_CPUS, MAX_LOCKS, MAX_PICKS, MAX_PRIO, MAX_TASKS}
 use Rattle.rt_script.specs.Lines.{SoFar, after_cpus_line, after_task_line, after_lock_line, after_call_line, after_pick_line}
 use Rattle.rt_script.specs.Spelling.{cpu_spelled, kind_spelled}
 use Rattle.rt_script.specs.Names.{named, task_named}
@@ -38,10 +38,10 @@ begun script = record { script = script; begun = true }
 abbrev pub empty : ℕ → Script
 empty cpus = record { cpus = cpus; tasks = []; locks = []; picks = [] }
 
-cpus_made : (cpus : ℕ) → 1 ≤ cpus → cpus ≤ max_cpus → after_cpus_line (record { script = empty_script; begun = false }) (decimal cpus ∷ []) ≡ Ok (empty cpus)
+cpus_made : (cpus : ℕ) → 1 ≤ cpus → cpus ≤ MAX_CPUS → after_cpus_line (record { script = empty_script; begun = false }) (decimal cpus ∷ []) ≡ Ok (empty cpus)
 unfolding after_cpus_line
 cpus_made cpus some few =
-    let number : number_upto max_cpus (decimal cpus) ≡ Some cpus = number_read max_cpus cpus few (omega arith) in
+    let number : number_upto MAX_CPUS (decimal cpus) ≡ Some cpus = number_read MAX_CPUS cpus few (omega arith) in
     let positive : ltb 0 cpus ≡ true = lt-ltb 0 cpus some in
     rw (number, positive) refl
 
@@ -56,13 +56,13 @@ reads_cpus s h = reads_line (record { script = empty_script; begun = false }) (e
 abbrev pub of_tasks : Script → List TaskLine → Script
 of_tasks s front = record { cpus = s.cpus; tasks = map uncalled front; locks = []; picks = [] }
 
-task_made : (p : Script) (x : TaskLine) → is_name x.name ≡ true → x.own ≤ max_prio → x.cpu.0 < p.cpus → p.cpus ≤ max_cpus → named p x.name ≡ None → length p.tasks < max_tasks
+task_made : (p : Script) (x : TaskLine) → is_name x.name ≡ true → x.own ≤ MAX_PRIO → x.cpu.0 < p.cpus → p.cpus ≤ MAX_CPUS → named p x.name ≡ None → length p.tasks < MAX_TASKS
     → after_task_line p (x.name ∷ decimal x.own ∷ decimal x.cpu.0 ∷ []) ≡ Ok (with_task p (uncalled x))
 unfolding after_task_line
 task_made p x shape small on few new room =
-    let number : number_upto max_prio (decimal x.own) ≡ Some x.own = number_read max_prio x.own small (omega arith) in
+    let number : number_upto MAX_PRIO (decimal x.own) ≡ Some x.own = number_read MAX_PRIO x.own small (omega arith) in
     let cpu : cpu_spelled p (decimal x.cpu.0) ≡ Some x.cpu = cpu_read p x.cpu on few in
-    let within : ltb (length p.tasks) max_tasks ≡ true = lt-ltb (length p.tasks) max_tasks room in
+    let within : ltb (length p.tasks) MAX_TASKS ≡ true = lt-ltb (length p.tasks) MAX_TASKS room in
     rw (shape, new, number, cpu, within) refl
 
 middle_task : (s : Script) → IsScript s → (front : List TaskLine) (x : TaskLine) (back : List TaskLine) → s.tasks ≡ front ++ x ∷ back → IsTaskOf s x
@@ -75,7 +75,7 @@ reads_task s h front x back e =
     let p : Script = of_tasks s front in
     let fits : IsTaskOf s x = middle_task s h front x back e in
     let new : named p x.name ≡ None = task_is_new p s h.names front x back e refl refl in
-    let room : length (map uncalled front) < max_tasks = omega (arith, length-map front uncalled, length-middle front x back, ap length e, h.tasks) in
+    let room : length (map uncalled front) < MAX_TASKS = omega (arith, length-map front uncalled, length-middle front x back, ap length e, h.tasks) in
     let made : after_task_line p (x.name ∷ decimal x.own ∷ decimal x.cpu.0 ∷ []) ≡ Ok (with_task p (uncalled x)) = task_made p x fits.name fits.own fits.cpu h.cpus.1 new room in
     let next : with_task p (uncalled x) ≡ of_tasks s (front ++ x ∷ []) = ap (λ (ts : List TaskLine). record { cpus = s.cpus; tasks = ts; locks = []; picks = [] }) (sym (map-append uncalled front (x ∷ []))) in
     reads_line (begun p) (of_tasks s (front ++ x ∷ [])) (codes "task") (x.name ∷ decimal x.own ∷ decimal x.cpu.0 ∷ [])
@@ -91,11 +91,11 @@ reads_tasks s h = reads_each s.tasks (λ front back. begun (of_tasks s front)) (
 abbrev pub of_locks : Script → List (List ℕ × Kind) → Script
 of_locks s front = record { cpus = s.cpus; tasks = map uncalled s.tasks; locks = locks_of_lines s.cpus front; picks = [] }
 
-lock_made : (p : Script) (name : List ℕ) (kind : Kind) → is_name name ≡ true → named p name ≡ None → length p.locks + length (locks_of p.cpus name kind) ≤ max_locks
+lock_made : (p : Script) (name : List ℕ) (kind : Kind) → is_name name ≡ true → named p name ≡ None → length p.locks + length (locks_of p.cpus name kind) ≤ MAX_LOCKS
     → after_lock_line p (name ∷ lock_kind_word kind ∷ []) ≡ Ok (with_locks p (locks_of p.cpus name kind))
 unfolding after_lock_line
 lock_made p name kind shape new room =
-    let within : leb (length p.locks + length (locks_of p.cpus name kind)) max_locks ≡ true = le-leb _ max_locks room in
+    let within : leb (length p.locks + length (locks_of p.cpus name kind)) MAX_LOCKS ≡ true = le-leb _ MAX_LOCKS room in
     rw (shape, new, kind_read kind, within) refl
   where
     kind_read : (kind : Kind) → kind_spelled (lock_kind_word kind) ≡ Some kind
@@ -109,7 +109,7 @@ lock_made p name kind shape new room =
 record NextLock (s : Script) (front : List (List ℕ × Kind)) (line : List ℕ × Kind) : Type 0 where
   shape : is_name line.0 ≡ true
   new : named (of_locks s front) line.0 ≡ None
-  room : length (locks_of_lines s.cpus front) + length (locks_of s.cpus line.0 line.1) ≤ max_locks
+  room : length (locks_of_lines s.cpus front) + length (locks_of s.cpus line.0 line.1) ≤ MAX_LOCKS
 
 next_lock : (s : Script) → IsScript s → (lines front : List (List ℕ × Kind)) (line : List ℕ × Kind) (back : List (List ℕ × Kind)) → s.locks ≡ locks_of_lines s.cpus lines → lines ≡ front ++ line ∷ back → NextLock s front line
 next_lock s h lines front line back whole e =
@@ -170,7 +170,7 @@ none_uncalled [] = refl
 none_uncalled (t ∷ ts) = none_uncalled ts
 
 still_room : (s : Script) → IsScript s → (front : List TaskLine) (x : TaskLine) (back : List TaskLine) → s.tasks ≡ front ++ x ∷ back → (done : List Call) (c : Call) (rest : List Call) → x.calls ≡ done ++ c ∷ rest
-    → all_calls (of_calls s (amid front x done back)) < max_calls
+    → all_calls (of_calls s (amid front x done back)) < MAX_CALLS
 still_room s h front x back e done c rest calls =
     let f : TaskLine → ℕ = λ t. length t.calls in
     let whole : all_calls s ≡ sum_by f (front ++ x ∷ back) = sum-map f s.tasks ∙ ap (sum_by f) e in
@@ -179,10 +179,10 @@ still_room s h front x back e done c rest calls =
     let some : sum_by f (so_far x done ∷ map uncalled back) ≡ length done + sum_by f (map uncalled back) = sum_by-cons f (so_far x done) (map uncalled back) in
     omega (arith, here, some, whole, part, sum_by-append f front (x ∷ back), sum_by-append f front (so_far x done ∷ map uncalled back), none_uncalled back, ap length calls, length-append done (c ∷ rest), h.calls)
 
-call_made : (p : Script) (task : List ℕ) (words : List (List ℕ)) (t : TaskId) (call : Call) → task_named p task ≡ Some t → Says p words call → all_calls p < max_calls → after_call_line p (task ∷ words) ≡ Ok (with_call p t call)
+call_made : (p : Script) (task : List ℕ) (words : List (List ℕ)) (t : TaskId) (call : Call) → task_named p task ≡ Some t → Says p words call → all_calls p < MAX_CALLS → after_call_line p (task ∷ words) ≡ Ok (with_call p t call)
 unfolding after_call_line
 call_made p task words t call known says room =
-    let within : ltb (all_calls p) max_calls ≡ true = lt-ltb (all_calls p) max_calls room in
+    let within : ltb (all_calls p) MAX_CALLS ≡ true = lt-ltb (all_calls p) MAX_CALLS room in
     rw (says.formed, known, says.gives, within) refl
 
 -- the call goes to the task that is amid
@@ -226,10 +226,10 @@ reads_calls s h = reads_each s.tasks (λ front back. begun (of_calls s (front ++
 
 -- ---- picks
 
-pick_made : (p : Script) (task : List ℕ) (t : TaskId) → task_named p task ≡ Some t → length p.picks < max_picks → after_pick_line p (task ∷ []) ≡ Ok (with_pick p t)
+pick_made : (p : Script) (task : List ℕ) (t : TaskId) → task_named p task ≡ Some t → length p.picks < MAX_PICKS → after_pick_line p (task ∷ []) ≡ Ok (with_pick p t)
 unfolding after_pick_line
 pick_made p task t known room =
-    let within : ltb (length p.picks) max_picks ≡ true = lt-ltb (length p.picks) max_picks room in
+    let within : ltb (length p.picks) MAX_PICKS ≡ true = lt-ltb (length p.picks) MAX_PICKS room in
     rw (known, within) refl
 
 -- the script with these picks alone
@@ -241,7 +241,7 @@ reads_pick s h front t back e =
     let p : Script = of_picks s front in
     let in' : t.0 < length s.tasks = subst (λ (u : TaskId). u.0 < length s.tasks) (get_or-append_seam front t back t) (subst (All (λ (u : TaskId). u.0 < length s.tasks)) e h.each_pick (length front) t (length-middle front t back)) in
     let known : task_named p (task_line s t).name ≡ Some t = task_is_known p s h.names t in' refl in
-    let room : length front < max_picks = omega (arith, length-middle front t back, ap length e, h.picks) in
+    let room : length front < MAX_PICKS = omega (arith, length-middle front t back, ap length e, h.picks) in
     reads_line (begun p) (of_picks s (front ++ t ∷ [])) (codes "pick") ((task_line s t).name ∷ [])
     (record { plain = pick_plain (task_line s t).name (task_fits s t h in').name; kept = refl; not_go = refl; not_end = λ rest. refl })
     (pick_made p (task_line s t).name t known room)

@@ -16,7 +16,7 @@ use Rattle.rt_base.specs.Text.{spaced}
 use Rattle.rt_script.proofs.Numbers.{decimals}
 use Rattle.rt_script.proofs.Tests.{left, right, both}
 use Rattle.rt_script.specs.Lines.{are_words}
-use Rattle.rt_script.specs.Limits.{max_name}
+use Rattle.rt_base.specs.declared.limits.TheConstants.{MAX_NAME}
 use Rattle.rt_script.specs.Words.{words_of, number_upto, is_printable}
 
 -- ---- words
@@ -27,12 +27,12 @@ is_word_byte b = leb 33 b && leb b 126
 
 -- as many such bytes as a name may have
 abbrev pub is_word : List ℕ → Bool
-is_word word = ltb 0 (length word) && leb (length word) max_name && list_all is_word_byte word
+is_word word = ltb 0 (length word) && leb (length word) MAX_NAME && list_all is_word_byte word
 
 word_some : (word : List ℕ) → is_word word ≡ true → ltb 0 (length word) ≡ true
 word_some word e = left _ _ (left _ _ e)
 
-word_short : (word : List ℕ) → is_word word ≡ true → leb (length word) max_name ≡ true
+word_short : (word : List ℕ) → is_word word ≡ true → leb (length word) MAX_NAME ≡ true
 word_short word e = right _ _ (left _ _ e)
 
 word_bytes : (word : List ℕ) → is_word word ≡ true → list_all is_word_byte word ≡ true
@@ -56,7 +56,7 @@ digit_byte b e = grind (arith, nat_tests)
 pub word_of_number : (n : ℕ) → n < 256 → is_word (decimal n) ≡ true
 word_of_number n small =
     let some : ltb 0 (length (decimal n)) ≡ true = lt-ltb 0 (length (decimal n)) (decimal_nonempty n (omega arith)) in
-    let short : leb (length (decimal n)) max_name ≡ true = le-leb (length (decimal n)) max_name (omega (arith, length-decimal-le 3 n (omega arith) (omega arith) (omega arith))) in
+    let short : leb (length (decimal n)) MAX_NAME ≡ true = le-leb (length (decimal n)) MAX_NAME (omega (arith, length-decimal-le 3 n (omega arith) (omega arith) (omega arith))) in
     both _ _ (both _ _ some short) (all_weaker is_ascii_digit is_word_byte digit_byte (decimal n) (digits_decimal decimals n (omega arith)))
 
 pub number_read : (most n : ℕ) → n ≤ most → most < 256 → number_upto most (decimal n) ≡ Some n
@@ -103,12 +103,12 @@ printable_spaced (w ∷ ws) e = list_all-append is_printable w (spaced ws) ∙ b
 pub printable_line : (first : List ℕ) (words : List (List ℕ)) → list_all is_word (first ∷ words) ≡ true → list_all is_printable (line_of first words) ≡ true
 printable_line first words e = list_all-append is_printable first (spaced words) ∙ both _ _ (printable_word first (left _ _ e)) (printable_spaced words (right _ _ e))
 
-length_spaced : (words : List (List ℕ)) → list_all is_word words ≡ true → length (spaced words) ≤ (max_name + 1) * length words
+length_spaced : (words : List (List ℕ)) → list_all is_word words ≡ true → length (spaced words) ≤ (MAX_NAME + 1) * length words
 length_spaced [] e = omega arith
-length_spaced (w ∷ ws) e = omega (arith, length-append w (spaced ws), leb-true (length w) max_name (word_short w (left _ _ e)), length_spaced ws (right _ _ e))
+length_spaced (w ∷ ws) e = omega (arith, length-append w (spaced ws), leb-true (length w) MAX_NAME (word_short w (left _ _ e)), length_spaced ws (right _ _ e))
 
-pub length_line : (first : List ℕ) (words : List (List ℕ)) → list_all is_word (first ∷ words) ≡ true → length (line_of first words) ≤ max_name + (max_name + 1) * length words
-length_line first words e = omega (arith, length-append first (spaced words), leb-true (length first) max_name (word_short first (left _ _ e)), length_spaced words (right _ _ e))
+pub length_line : (first : List ℕ) (words : List (List ℕ)) → list_all is_word (first ∷ words) ≡ true → length (line_of first words) ≤ MAX_NAME + (MAX_NAME + 1) * length words
+length_line first words e = omega (arith, length-append first (spaced words), leb-true (length first) MAX_NAME (word_short first (left _ _ e)), length_spaced words (right _ _ e))
 
 -- no word of such a line is empty
 pub no_empty_word : (words : List (List ℕ)) → list_all is_word words ≡ true → are_words words ≡ true

@@ -15,7 +15,7 @@ use Rattle.rt_script.specs.declared.verb.Verb.TheVariants as verbs
 use Rattle.rt_script.specs.declared.verb.LockVerb.{LockVerb}
 use Rattle.rt_script.specs.declared.verb.LockVerb.TheVariants as on
 use Rattle.rt_script.specs.Judging.{Judged, ◌>>=◌, need}
-use Rattle.rt_script.specs.Limits.{max_prio}
+use Rattle.rt_base.specs.declared.limits.TheConstants.{MAX_PRIO}
 use Rattle.rt_script.specs.Names.{task_named, lock_named}
 use Rattle.rt_script.specs.Spelling.{cpu_spelled, state_spelled, verb_spelled}
 use Rattle.rt_script.specs.Words.{number_upto}
@@ -100,7 +100,7 @@ call_in script (forms.Signal task) = do
   Ok (calls.Signal t)
 call_in script (forms.SetPrio task prio) = do
   t ← need Unknown (task_named script task)
-  n ← need BadNumber (number_upto max_prio prio)
+  n ← need BadNumber (number_upto MAX_PRIO prio)
   Ok (calls.SetPrio t n)
 call_in script (forms.Move cpu) = do
   cpu ← need BadNumber (cpu_spelled script cpu)

@@ -4,7 +4,6 @@ pub mod Canonical
 pub mod Digits
 pub mod Grammar
 pub mod Judging
-pub mod Limits
 pub mod Lines
 pub mod Names
 pub mod Results

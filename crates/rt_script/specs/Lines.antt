@@ -8,7 +8,7 @@ use Rattle.rt_script.specs.declared.keyword.Keyword.TheVariants as keywords
 use Rattle.rt_script.specs.Adding.{with_cpus, with_task, with_locks, with_call, with_pick}
 use Rattle.rt_script.specs.Calls.{call_form, call_in}
 use Rattle.rt_script.specs.Judging.{Judged, ◌>>=◌, need, provided}
-use Rattle.rt_script.specs.Limits.{max_tasks, max_locks, max_calls, max_picks, max_prio}
+use Rattle.rt_base.specs.declared.limits.TheConstants.{MAX_TASKS, MAX_LOCKS, MAX_CALLS, MAX_PICKS, MAX_PRIO}
 use Rattle.rt_script.specs.Names.{task_named, new_name}
 use Rattle.rt_script.specs.Spelling.{cpus_spelled, cpu_spelled, kind_spelled, keyword_spelled}
 use Rattle.rt_script.specs.Words.{words_of, one, two, three, number_upto, is_printable, is_passed_over}
@@ -32,9 +32,9 @@ unfoldable pub after_task_line : Script → List (List ℕ) → Judged Script
 after_task_line script operands = do
   words ← need BadLine (three operands)
   name ← new_name script words.0
-  own ← need BadNumber (number_upto max_prio words.1)
+  own ← need BadNumber (number_upto MAX_PRIO words.1)
   cpu ← need BadNumber (cpu_spelled script words.2)
-  provided (nat_lt (length script.tasks) max_tasks) TooMany (Ok (with_task script (record { name = name; own = own; cpu = cpu; calls = [] })))
+  provided (nat_lt (length script.tasks) MAX_TASKS) TooMany (Ok (with_task script (record { name = name; own = own; cpu = cpu; calls = [] })))
 
 -- `lock NAME KIND`
 unfoldable pub after_lock_line : Script → List (List ℕ) → Judged Script
@@ -42,7 +42,7 @@ after_lock_line script operands = do
   words ← need BadLine (two operands)
   kind ← need BadLine (kind_spelled words.1)
   name ← new_name script words.0
-  provided (nat_le (length script.locks + length (locks_of script.cpus name kind)) max_locks) TooMany (Ok (with_locks script (locks_of script.cpus name kind)))
+  provided (nat_le (length script.locks + length (locks_of script.cpus name kind)) MAX_LOCKS) TooMany (Ok (with_locks script (locks_of script.cpus name kind)))
 
 -- `call TASK CALL`
 unfoldable pub after_call_line : Script → List (List ℕ) → Judged Script
@@ -51,14 +51,14 @@ after_call_line script (task ∷ words) = do
   form ← need BadLine (call_form words)
   t ← need Unknown (task_named script task)
   call ← call_in script form
-  provided (nat_lt (all_calls script) max_calls) TooMany (Ok (with_call script t call))
+  provided (nat_lt (all_calls script) MAX_CALLS) TooMany (Ok (with_call script t call))
 
 -- `pick TASK`
 unfoldable pub after_pick_line : Script → List (List ℕ) → Judged Script
 after_pick_line script operands = do
   task ← need BadLine (one operands)
   t ← need Unknown (task_named script task)
-  provided (nat_lt (length script.picks) max_picks) TooMany (Ok (with_pick script t))
+  provided (nat_lt (length script.picks) MAX_PICKS) TooMany (Ok (with_pick script t))
 
 -- ---- lines
 

@@ -12,7 +12,7 @@ use Rattle.rt_script.specs.declared.verb.Verb.{Verb}
 use Rattle.rt_script.specs.declared.verb.Verb.TheVariants as verbs
 use Rattle.rt_script.specs.declared.verb.LockVerb.{LockVerb}
 use Rattle.rt_script.specs.declared.verb.LockVerb.TheVariants as on
-use Rattle.rt_script.specs.Limits.{max_cpu, max_cpus}
+use Rattle.rt_base.specs.declared.limits.TheConstants.{MAX_CPU, MAX_CPUS}
 use Rattle.rt_script.specs.Words.{only_if, number_upto}
 
 -- ---- processors
@@ -24,7 +24,7 @@ positive (Some n) = only_if (nat_lt 0 n) (Some n)
 
 -- how many processors the word says
 abbrev pub cpus_spelled : List ℕ → Option ℕ
-cpus_spelled word = positive (number_upto max_cpus word)
+cpus_spelled word = positive (number_upto MAX_CPUS word)
 
 -- the processor of a number, where it is below that
 abbrev pub cpu_below : ℕ → Option ℕ → Option Cpu
@@ -33,7 +33,7 @@ cpu_below cpus (Some n) = only_if (nat_lt n cpus) (Some (record { 0 = n }))
 
 -- the processor of the script that the word says
 abbrev pub cpu_spelled : Script → List ℕ → Option Cpu
-cpu_spelled script word = cpu_below script.cpus (number_upto max_cpu word)
+cpu_spelled script word = cpu_below script.cpus (number_upto MAX_CPU word)
 
 -- ---- fixed words
 

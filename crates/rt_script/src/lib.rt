@@ -5,7 +5,6 @@ mod call_form;
 mod draft;
 mod fault;
 mod keyword;
-mod limits;
 mod line_error;
 mod lock;
 mod name;

@@ -2,7 +2,7 @@ ghost use Rattle.std.specs.Prelude.{◌≡◌};
 ghost use Rattle.std.specs.List.{list_all};
 ghost use Rattle.rt_base.specs.Name.{is_name, is_name_byte};
 
-use crate::limits::MAX_NAME;
+use rt_base::limits::MAX_NAME;
 
 /// Whether the word has the shape of a name.
 pub(crate) fn is_name(word: &[u8]) -> bool

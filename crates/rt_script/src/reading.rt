@@ -2,7 +2,6 @@ ghost use Rattle.std.specs.Prelude.{◌≡◌, ◌+◌, ◌<◌, false, length, 
 ghost use Rattle.rt_base.specs.Script.{IsScript};
 ghost use Rattle.rt_script.specs.Adding.{empty_script};
 ghost use Rattle.rt_script.specs.Grammar.{script_at_go, after_lines, script_of};
-ghost use Rattle.rt_script.specs.Limits.{text_limit};
 ghost use Rattle.rt_script.specs.Results.{Reads, IsInLine, IsFaultOf};
 
 use crate::draft::Draft;
@@ -12,6 +11,7 @@ use crate::line_error::LineError;
 use crate::pieces::Pieces;
 use crate::script::Script;
 use rt_base::NoMemory;
+use rt_base::limits::TEXT_LIMIT;
 use std::alloc::Global;
 
 /// The script that a text is, by the rules of the whole script text. A fault is the first one: the first
@@ -19,7 +19,7 @@ use std::alloc::Global;
 /// its `go` line is at fault in the line after its last one.
 #[tactic(auto, unfolding(crate::specs::Grammar::script_of))]
 pub fn read_script(alloc: Global, text: &[u8]) -> Result<Script, ScriptFault>
-    requires { length text.now < text_limit }
+    requires { length text.now < TEXT_LIMIT }
     ensures script { IfOk result (λ script. script_of text.now ≡ Ok script) }
     ensures valid { IfOk result IsScript }
     ensures fault { IfErr result (IsFaultOf (script_of text.now)) }
@@ -36,7 +36,7 @@ pub fn read_script(alloc: Global, text: &[u8]) -> Result<Script, ScriptFault>
 /// Reads the lines after the header, the first of which is line 2.
 #[tactic(auto, unfolding(crate::specs::Grammar::after_lines))]
 fn read_lines(alloc: Global, mut lines: Pieces) -> Result<Script, ScriptFault>
-    requires { length lines + 1 < text_limit }
+    requires { length lines + 1 < TEXT_LIMIT }
     ensures { Reads result (after_lines 2 (record { script = empty_script; begun = false }) lines.entry) }
 {
     let mut draft = Draft::new(alloc);

@@ -1,13 +1,14 @@
 ghost use Rattle.std.specs.Prelude.{◌≡◌, ◌+◌, ◌<◌, ◌≤◌, ℕ, List, [], length, true, None, OnOk, OnErr};
 ghost use Rattle.rt_base.specs.Name.{is_name};
 ghost use Rattle.rt_base.specs.Script.{task_line, lock_line, all_calls, budget_of, IsScript, IsTaskOf, IsCallOf, IsCellOf, IsLockWithin};
-ghost use Rattle.rt_script.specs.Limits.{max_name};
 ghost use Rattle.rt_script.specs.Names.{named, AreNewLocks};
 ghost use Rattle.rt_script.specs.Adding.{empty_script, with_cpus, with_task, with_locks, with_call, with_pick};
 
-use crate::limits::{BUDGET_FACTOR, MAX_CALLS, MAX_CPUS, MAX_LOCKS, MAX_PICKS, MAX_TASKS};
 use crate::lock::Lock;
 use crate::task::Task;
+use rt_base::limits::{
+    BUDGET_FACTOR, MAX_CALLS, MAX_CPUS, MAX_LOCKS, MAX_NAME, MAX_PICKS, MAX_TASKS,
+};
 use rt_base::{Call, Cpu, Kind, LockId, Prio, TaskId};
 use std::alloc::{AllocError, Global};
 use std::marker::Model;
@@ -104,7 +105,7 @@ impl Script {
     pub fn task_name(&self, t: TaskId) -> &str
         requires { t.0 < length self.now.tasks }
         ensures name { result.now ≡ (task_line self.now t).name }
-        ensures short { (1 ≤ length result.now) × (length result.now ≤ max_name) }
+        ensures short { (1 ≤ length result.now) × (length result.now ≤ MAX_NAME) }
     {
         self.task(t).name.as_str()
     }
@@ -121,7 +122,7 @@ impl Script {
     pub fn lock_name(&self, l: LockId) -> &str
         requires { l.0 < length self.now.locks }
         ensures name { result.now ≡ (lock_line self.now l).name }
-        ensures short { (1 ≤ length result.now) × (length result.now ≤ max_name) }
+        ensures short { (1 ≤ length result.now) × (length result.now ≤ MAX_NAME) }
     {
         self.lock(l).name.as_str()
     }

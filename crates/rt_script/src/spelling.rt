@@ -2,23 +2,22 @@
 ghost use Rattle.std.specs.Prelude.{◌≡◌, ◌≢◌, ◌<◌, ◌≤◌, IfOk, IfSome};
 ghost use Rattle.rt_base.specs.declared.state.TaskState.TheVariants.{LockWait};
 ghost use Rattle.rt_script.specs.Judging.{need};
-ghost use Rattle.rt_script.specs.Limits.{max_cpus, max_prio};
 ghost use Rattle.rt_script.specs.Results.{Gives};
 ghost use Rattle.rt_script.specs.Spelling.{cpu_spelled, cpus_spelled, kind_spelled, state_spelled};
 ghost use Rattle.rt_script.specs.Words.{number_upto};
 ghost use Rattle.rt_script.specs.declared.fault.Why.TheVariants.{BadNumber};
 
 use crate::fault::Why;
-use crate::limits::{MAX_CPU, MAX_CPUS, MAX_PRIO};
 use crate::line_error::LineError;
 use crate::number::number;
 use crate::script::Script;
+use rt_base::limits::{MAX_CPU, MAX_CPUS, MAX_PRIO};
 use rt_base::{Cpu, Kind, Prio, TaskState};
 
 /// The priority that a word spells.
 pub(crate) fn prio_spelled(word: &[u8]) -> Result<Prio, LineError>
-    ensures value { Gives (λ prio. prio) result (need BadNumber (number_upto max_prio word.now)) }
-    ensures within { IfOk result (λ prio. prio ≤ max_prio) }
+    ensures value { Gives (λ prio. prio) result (need BadNumber (number_upto MAX_PRIO word.now)) }
+    ensures within { IfOk result (λ prio. prio ≤ MAX_PRIO) }
 {
     let Some(n) = number(word, MAX_PRIO) else {
         return Err(LineError::Fault(Why::BadNumber));
@@ -32,7 +31,7 @@ pub(crate) fn prio_spelled(word: &[u8]) -> Result<Prio, LineError>
 /// The number of processors that a word spells.
 pub(crate) fn cpus_spelled(word: &[u8]) -> Result<u8, LineError>
     ensures value { Gives (λ n. n) result (need BadNumber (cpus_spelled word.now)) }
-    ensures within { IfOk result (λ n. (1 ≤ n) × (n ≤ max_cpus)) }
+    ensures within { IfOk result (λ n. (1 ≤ n) × (n ≤ MAX_CPUS)) }
 {
     match number(word, MAX_CPUS) {
         Some(n) if n > 0 => Ok(n),

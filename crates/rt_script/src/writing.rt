@@ -4,12 +4,12 @@ ghost use Rattle.rt_base.specs.Script.{TaskLine, LockLine, task_line, lock_line,
 ghost use Rattle.rt_base.specs.Text.{spaced};
 ghost use Rattle.rt_script.specs.Canonical.{lock_kind_word, call_words, cpus_text, task_text, lock_text, call_text, pick_text, lined_locks, calls_text, with_line_feed, canonical};
 ghost use Rattle.rt_script.specs.Grammar.{script_of};
-ghost use Rattle.rt_script.specs.Limits.{text_limit};
 
 use crate::lock::Lock;
 use crate::script::Script;
 use crate::task::Task;
 use itoa::Buffer;
+use rt_base::limits::TEXT_LIMIT;
 use rt_base::{Call, Kind, LockId, NoMemory, TaskId};
 use std::alloc::{AllocError, Global};
 
@@ -21,7 +21,7 @@ impl Script {
     pub fn write(&self, alloc: Global) -> Result<Vec<u8>, NoMemory>
         ensures text { IfOk result (λ text. text.items ≡ canonical self.now) }
         ensures parses { IfOk result (λ text. script_of text.items ≡ Ok self.now) }
-        ensures short { IfOk result (λ text. length text.items < text_limit) }
+        ensures short { IfOk result (λ text. length text.items < TEXT_LIMIT) }
     {
         let mut text = Vec::new(alloc);
         self.push_text(&mut text)?;

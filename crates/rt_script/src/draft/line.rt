@@ -9,13 +9,13 @@ use super::Draft;
 use crate::call_form::call_form;
 use crate::fault::Why;
 use crate::keyword::Keyword;
-use crate::limits::{MAX_CALLS, MAX_LOCKS, MAX_PICKS, MAX_TASKS};
 use crate::line_error::LineError;
 use crate::lock::locks_of;
 use crate::named::Named;
 use crate::pieces::Pieces;
 use crate::spelling::{cpu_spelled, cpus_spelled, kind_spelled, prio_spelled};
 use crate::task::Task;
+use rt_base::limits::{MAX_CALLS, MAX_LOCKS, MAX_PICKS, MAX_TASKS};
 use rt_base::{LockId, TaskId};
 use std::alloc::Global;
 

@@ -2,7 +2,8 @@
 ghost use Rattle.std.specs.Prelude.{◌≡◌, ◌↔◌, Bool, true, false, None, List, [], ◌++◌, map, IsTrue};
 ghost use Rattle.std.specs.List.{list_any};
 ghost use Rattle.rt_model.specs.Footprint.{same_object, owner_parts, reader_parts, tasks_of, along, objects_of, footprint, touches};
-ghost use Rattle.rt_model.specs.Dispatch.{touched, busy_touched};
+ghost use Rattle.rt_model.specs.Rules.{touched};
+ghost use Rattle.rt_model.specs.events.Acquire.{busy_touched};
 ghost use Rattle.rt_model.specs.declared.obj.Obj.{Obj};
 ghost use Rattle.rt_events.specs.Touched.{path_tasks, Tells};
 

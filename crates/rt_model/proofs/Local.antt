@@ -1,0 +1,166 @@
+-- The choice of an event reads only what the event touches, in any state; and that there is none is told by a thread and its task.
+use Rattle.std.proofs.Common.{◌≡◌, Bool, true, false, cond, not, ◌&&◌, ◌||◌, refl, sym, ap, ◌∙◌, subst, Option, Some, None, is_none, is_some, IfSome}
+use Rattle.rt_base.specs.declared.call.Call.{Call}
+use Rattle.rt_base.specs.declared.call.Call.TheVariants as calls
+use Rattle.rt_base.specs.declared.id.LockId.{LockId}
+use Rattle.rt_base.specs.declared.id.TaskId.{TaskId}
+use Rattle.rt_base.specs.declared.kind.Kind.{Kind}
+use Rattle.rt_base.specs.declared.reply.Reply.{Reply}
+use Rattle.rt_base.specs.declared.state.TaskState.{TaskState}
+use Rattle.rt_base.specs.declared.state.TaskState.TheVariants as states
+use Rattle.rt_model.specs.declared.event.Event.{Event}
+use Rattle.rt_model.specs.declared.phase.Phase.{Phase}
+use Rattle.rt_model.specs.declared.phase.Phase.TheVariants as phases
+use Rattle.rt_model.specs.Parts.{OwnerPart, TaskPart, ThreadPart, kind_of, call_of}
+use Rattle.rt_model.specs.Rows.{can_take}
+use Rattle.rt_model.specs.State.{State, Shared, shared, lock_in, task_in, task_at, task_part, thread_part}
+use Rattle.rt_model.specs.Choice.{called_lock}
+use Rattle.rt_model.specs.events.Acquire.{acquire_event, take_event}
+use Rattle.rt_model.specs.events.Release.{give_event, release_event}
+use Rattle.rt_model.specs.events.Wait.{wait_event, slow_event, queued_event}
+use Rattle.rt_model.specs.events.Own.{own_answer}
+use Rattle.rt_model.specs.NextEvent.{answered_or, first_event, later_event, event_in, event_of, next_of, next_event}
+use Rattle.rt_model.specs.laws.Local.{AgreeOn}
+use Rattle.rt_model.proofs.EffectLocal.{agree-thread, agree-lock, agree-task}
+use Rattle.rt_model.proofs.Touching.{touches-thread}
+use Rattle.rt_model.proofs.Alike.{Alike, GivesAlike, gives_alike}
+use Rattle.rt_model.proofs.events.Acquire.{same-acquire}
+use Rattle.rt_model.proofs.events.Release.{same-release}
+use Rattle.rt_model.proofs.events.Wait.{same-slow, same-queued}
+
+-- ---- a task's next event is its own
+
+abbrev IsOwn : TaskId → Option Event → Type 0
+IsOwn t event = IfSome event (λ (e : Event). e.task ≡ t)
+
+either-own : (t : TaskId) (b : Bool) (x y : Event) → x.task ≡ t → y.task ≡ t → (cond b x y).task ≡ t
+either-own t true x y first second = first
+either-own t false x y first second = second
+
+first-own : (sh : Shared) (t : TaskId) (call : Call) → IsOwn t (first_event sh t call)
+first-own sh t (calls.Lock l) = either-own t (is_none (lock_in sh l).owner && not (lock_in sh l).bit) _ _ refl refl
+first-own sh t (calls.Unlock l) = either-own t (lock_in sh l).bit (give_event t l (lock_in sh l) (task_in sh t)) _ refl refl
+first-own sh t _ = tt
+
+answered-own : (sh : Shared) (t : TaskId) (call : Call) (lock : Option LockId) (answer : Option Reply) → IsOwn t (answered_or (first_event sh t call) t lock answer)
+answered-own sh t call lock None = first-own sh t call
+answered-own sh t call lock (Some answer) = refl
+
+queued-own : (t : TaskId) (l : LockId) (kind : Kind) (lock : OwnerPart) (task : TaskPart) (state : TaskState) → IsOwn t (queued_event t l kind lock task state)
+queued-own t l kind lock task states.Running = either-own t (can_take t kind lock task) (take_event t l kind lock task) _ refl refl
+queued-own t l kind lock task _ = tt
+
+later-own : (phase : Phase) (sh : Shared) (t : TaskId) (thread : ThreadPart) (lock : Option LockId) → IsOwn t (later_event phase sh t thread lock)
+later-own phases.Slow sh t thread (Some l) =
+    either-own t (can_take t (kind_of thread l) (lock_in sh l) (task_in sh t)) (take_event t l (kind_of thread l) (lock_in sh l) (task_in sh t)) (wait_event t l (lock_in sh l) (task_in sh t) (task_at sh (lock_in sh l).owner)) refl refl
+later-own phases.Wait sh t thread (Some l) = queued-own t l (kind_of thread l) (lock_in sh l) (task_in sh t) (task_in sh t).state
+later-own _ sh t thread lock = tt
+
+in_phase-own : (phase : Phase) (sh : Shared) (t : TaskId) (thread : ThreadPart) (call : Call) → IsOwn t (event_in phase sh t thread call)
+in_phase-own phases.Start sh t thread call = answered-own sh t call (called_lock thread.cpu call) (own_answer thread call)
+in_phase-own phase sh t thread call = later-own phase sh t thread (called_lock thread.cpu call)
+
+at_call-own : (sh : Shared) (t : TaskId) (thread : ThreadPart) (call : Option Call) → IsOwn t (event_of sh t thread call)
+at_call-own sh t thread None = tt
+at_call-own sh t thread (Some call) = in_phase-own thread.phase sh t thread call
+
+pub task-next_event : (s : State) (t : TaskId) (e : Event) → next_event s t ≡ Some e → e.task ≡ t
+task-next_event s t e is = subst (IsOwn t) is (at_call-own (shared s) t (thread_part s t) (call_of (thread_part s t)))
+
+-- ---- the same event
+
+local-first : (t : TaskId) (call : Call) (a b : Shared) → GivesAlike (λ sh. first_event sh t call) a b
+local-first t (calls.Lock l) a b = gives_alike (λ sh. acquire_event t l (lock_in sh l)) a b (same-acquire a b t l)
+local-first t (calls.Unlock l) a b = gives_alike (λ sh. release_event t l (lock_in sh l) (task_in sh t)) a b (same-release a b t l)
+local-first t _ a b = λ e is alike. is
+
+local-answered : (t : TaskId) (call : Call) (lock : Option LockId) (answer : Option Reply) (a b : Shared) → GivesAlike (λ sh. answered_or (first_event sh t call) t lock answer) a b
+local-answered t call lock None a b = local-first t call a b
+local-answered t call lock (Some answer) a b = λ e is alike. is
+
+local-later : (phase : Phase) (t : TaskId) (thread : ThreadPart) (lock : Option LockId) (a b : Shared) → GivesAlike (λ sh. later_event phase sh t thread lock) a b
+local-later phases.Slow t thread (Some l) a b = gives_alike (λ sh. slow_event t l (kind_of thread l) (lock_in sh l) (task_in sh t) (task_at sh (lock_in sh l).owner)) a b (same-slow a b t l (kind_of thread l))
+local-later phases.Wait t thread (Some l) a b = same-queued t l (kind_of thread l) a b
+local-later _ t thread lock a b = λ e is alike. is
+
+local-in : (phase : Phase) (t : TaskId) (thread : ThreadPart) (call : Call) (a b : Shared) → GivesAlike (λ sh. event_in phase sh t thread call) a b
+local-in phases.Start t thread call a b = local-answered t call (called_lock thread.cpu call) (own_answer thread call) a b
+local-in phase t thread call a b = local-later phase t thread (called_lock thread.cpu call) a b
+
+local-of : (t : TaskId) (thread : ThreadPart) (call : Option Call) (a b : Shared) → GivesAlike (λ sh. event_of sh t thread call) a b
+local-of t thread None a b = λ e is alike. is
+local-of t thread (Some call) a b = local-in thread.phase t thread call a b
+
+-- any state that agrees on what the next event touches has the same next event
+pub local : (s other : State) (t : TaskId) (e : Event) → next_event s t ≡ Some e → AgreeOn e s other → next_event other t ≡ Some e
+local s other t e is agree =
+    let own : e.task ≡ t = task-next_event s t e is in
+    let same : thread_part other t ≡ thread_part s t = subst (λ (u : TaskId). thread_part other u ≡ thread_part s u) own (agree-thread s other e e.task agree (touches-thread e)) in
+    ap (next_of (shared other) t) same
+    ∙ local-of t (thread_part s t) (call_of (thread_part s t)) (shared s) (shared other) e is (record { lock = λ l at. agree-lock s other e l agree at; task = λ u at. agree-task s other e u agree at })
+
+-- ---- none
+
+-- whether there is a next event, by the thread and its own task alone
+abbrev has_first : Call → Bool
+has_first (calls.Lock l) = true
+has_first (calls.Unlock l) = true
+has_first _ = false
+
+abbrev runs : TaskState → Bool
+runs states.Running = true
+runs _ = false
+
+abbrev can_later : Phase → TaskState → Option LockId → Bool
+can_later phases.Slow state (Some l) = true
+can_later phases.Wait state (Some l) = runs state
+can_later _ state lock = false
+
+abbrev can_in : Phase → TaskState → ThreadPart → Call → Bool
+can_in phases.Start state thread call = is_some (own_answer thread call) || has_first call
+can_in phase state thread call = can_later phase state (called_lock thread.cpu call)
+
+abbrev can_at : ThreadPart → TaskState → Option Call → Bool
+can_at thread state None = false
+can_at thread state (Some call) = can_in thread.phase state thread call
+
+abbrev pub can_move : ThreadPart → TaskPart → Bool
+can_move thread task = can_at thread task.state (call_of thread)
+
+has-first : (sh : Shared) (t : TaskId) (call : Call) → is_some (first_event sh t call) ≡ has_first call
+has-first sh t (calls.Lock l) = refl
+has-first sh t (calls.Unlock l) = refl
+has-first sh t _ = refl
+
+has-answered : (sh : Shared) (t : TaskId) (call : Call) (lock : Option LockId) (answer : Option Reply) → is_some (answered_or (first_event sh t call) t lock answer) ≡ (is_some answer || has_first call)
+has-answered sh t call lock None = has-first sh t call
+has-answered sh t call lock (Some answer) = refl
+
+has-queued : (t : TaskId) (l : LockId) (kind : Kind) (lock : OwnerPart) (task : TaskPart) (state : TaskState) → is_some (queued_event t l kind lock task state) ≡ runs state
+has-queued t l kind lock task states.Running = refl
+has-queued t l kind lock task _ = refl
+
+has-later : (phase : Phase) (sh : Shared) (t : TaskId) (thread : ThreadPart) (lock : Option LockId) → is_some (later_event phase sh t thread lock) ≡ can_later phase (task_in sh t).state lock
+has-later phases.Slow sh t thread (Some l) = refl
+has-later phases.Wait sh t thread (Some l) = has-queued t l (kind_of thread l) (lock_in sh l) (task_in sh t) (task_in sh t).state
+has-later _ sh t thread lock = refl
+
+has-in : (phase : Phase) (sh : Shared) (t : TaskId) (thread : ThreadPart) (call : Call) → is_some (event_in phase sh t thread call) ≡ can_in phase (task_in sh t).state thread call
+has-in phases.Start sh t thread call = has-answered sh t call (called_lock thread.cpu call) (own_answer thread call)
+has-in phase sh t thread call = has-later phase sh t thread (called_lock thread.cpu call)
+
+has-of : (sh : Shared) (t : TaskId) (thread : ThreadPart) (call : Option Call) → is_some (event_of sh t thread call) ≡ can_at thread (task_in sh t).state call
+has-of sh t thread None = refl
+has-of sh t thread (Some call) = has-in thread.phase sh t thread call
+
+pub has-next : (s : State) (t : TaskId) → is_some (next_event s t) ≡ can_move (thread_part s t) (task_part s t)
+has-next s t = has-of (shared s) t (thread_part s t) (call_of (thread_part s t))
+
+no-event : (event : Option Event) → is_some event ≡ false → event ≡ None
+no-event None is = refl
+no-event (Some e) is = cc
+
+-- where a task has no next event, every state that agrees on its thread and its own task gives it none
+pub none : (s other : State) (t : TaskId) → next_event s t ≡ None → thread_part other t ≡ thread_part s t → task_part other t ≡ task_part s t → next_event other t ≡ None
+none s other t is thread task =
+    no-event (next_event other t) (has-next other t ∙ ((λ i. can_move (thread i) (task i)) ∙ (sym (has-next s t) ∙ ap is_some is)))

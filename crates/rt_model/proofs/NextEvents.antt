@@ -1,0 +1,71 @@
+-- How the next event of a task comes about.
+use Rattle.std.proofs.Common.{◌≡◌, ◌⊎◌, inl, inr, refl, subst, Option, Some, None, length}
+use Rattle.rt_base.specs.declared.call.Call.{Call}
+use Rattle.rt_base.specs.declared.call.Call.TheVariants as calls
+use Rattle.rt_base.specs.declared.id.LockId.{LockId}
+use Rattle.rt_base.specs.declared.id.TaskId.{TaskId}
+use Rattle.rt_base.specs.declared.reply.Reply.{Reply}
+use Rattle.rt_model.specs.declared.event.Event.{Event}
+use Rattle.rt_model.specs.declared.phase.Phase.{Phase}
+use Rattle.rt_model.specs.declared.phase.Phase.TheVariants as phases
+use Rattle.rt_model.specs.Parts.{call_of, kind_of}
+use Rattle.rt_model.specs.Choice.{called_lock}
+use Rattle.rt_model.specs.State.{State, shared, task_at, owner_part, task_part, thread_part}
+use Rattle.rt_model.specs.Stage.{IsServed, IsStaged, IsPhaseOf}
+use Rattle.rt_model.specs.events.Acquire.{acquire_event}
+use Rattle.rt_model.specs.events.Release.{release_event}
+use Rattle.rt_model.specs.events.Wait.{slow_event}
+use Rattle.rt_model.specs.events.Own.{own_answer}
+use Rattle.rt_model.specs.NextEvent.{first_event, answered_or, later_event, event_in, event_of, next_event}
+use Rattle.rt_model.specs.laws.Phases.{PhasesLaw}
+use Rattle.rt_model.proofs.Calling.{IsIn, at_call, served_call}
+use Rattle.rt_model.proofs.events.Own.{IsOwn, not_held, was_held}
+use Rattle.rt_model.proofs.events.Acquire.{IsAcquire, IsTake, is_take, acquired}
+use Rattle.rt_model.proofs.events.Release.{IsRelease, released}
+use Rattle.rt_model.proofs.events.Wait.{IsWaiting, slowed, woken_up}
+
+-- one constructor a family
+pub data IsNext (s : State) (t : TaskId) (e : Event) : Type 0 where
+  by_own : (call : Call) (answer : Reply) → IsOwn s t call answer e → IsNext s t e
+  by_acquire : (l : LockId) → IsAcquire s t l e → IsNext s t e
+  by_wait : (l : LockId) → IsWaiting s t l e → IsNext s t e
+  by_release : (l : LockId) → IsRelease s t l e → IsNext s t e
+
+first_next : (s : State) (t : TaskId) (call : Call) (e : Event) → IsIn s t phases.Start call → IsServed (length s.locks) call → own_answer (thread_part s t) call ≡ None → first_event (shared s) t call ≡ Some e → IsNext s t e
+first_next s t (calls.Lock l) e at served none is = let same : acquire_event t l (owner_part s l) ≡ e = cc in by_acquire l (acquired s t l e at (not_held _ _ none) same)
+first_next s t (calls.Unlock l) e at served none is = let same : release_event t l (owner_part s l) (task_part s t) ≡ e = cc in by_release l (released s t l e at (was_held _ none) same)
+first_next s t _ e at served none is = absurd served
+
+started : (s : State) (t : TaskId) (call : Call) (e : Event) (answer : Option Reply) → IsIn s t phases.Start call → IsServed (length s.locks) call → own_answer (thread_part s t) call ≡ answer
+    → answered_or (first_event (shared s) t call) t (called_lock (thread_part s t).cpu call) answer ≡ Some e → IsNext s t e
+started s t call e None at served none is = first_next s t call e at served none is
+started s t call e (Some answer) at served some is = by_own call answer (record { at = at; why = some; event = cc })
+
+taken_or_waiting : (s : State) (t : TaskId) (l : LockId) (e : Event) → IsTake s t l e ⊎ IsWaiting s t l e → IsNext s t e
+taken_or_waiting s t l e (inl takes) = by_acquire l (is_take takes)
+taken_or_waiting s t l e (inr waiting) = by_wait l waiting
+
+in_slow : (s : State) (t : TaskId) (call : Call) (e : Event) → IsIn s t phases.Slow call → IsPhaseOf phases.Slow (Some call) → later_event phases.Slow (shared s) t (thread_part s t) (called_lock (thread_part s t).cpu call) ≡ Some e → IsNext s t e
+in_slow s t (calls.Lock l) e at fits is =
+    let same : slow_event t l (kind_of (thread_part s t) l) (owner_part s l) (task_part s t) (task_at (shared s) (owner_part s l).owner) ≡ e = cc in taken_or_waiting s t l e (slowed s t l e at same)
+in_slow s t _ e at fits is = absurd fits
+
+in_wait : (s : State) (t : TaskId) (call : Call) (e : Event) → IsIn s t phases.Wait call → IsPhaseOf phases.Wait (Some call) → later_event phases.Wait (shared s) t (thread_part s t) (called_lock (thread_part s t).cpu call) ≡ Some e → IsNext s t e
+in_wait s t (calls.Lock l) e at fits is = taken_or_waiting s t l e (woken_up s t l e (task_part s t).state at refl is)
+in_wait s t _ e at fits is = absurd fits
+
+in_phase : (s : State) (t : TaskId) (call : Call) (e : Event) (phase : Phase) → IsIn s t phase call → IsPhaseOf phase (Some call) → event_in phase (shared s) t (thread_part s t) call ≡ Some e → IsNext s t e
+in_phase s t call e phases.Start at fits is = started s t call e (own_answer (thread_part s t) call) at at.served refl is
+in_phase s t call e phases.Slow at fits is = in_slow s t call e at fits is
+in_phase s t call e phases.Wait at fits is = in_wait s t call e at fits is
+in_phase s t call e _ at fits is = absurd fits
+
+at_call_of : (s : State) (t : TaskId) (e : Event) (call : Option Call) → IsStaged s → PhasesLaw s → call_of (thread_part s t) ≡ call → event_of (shared s) t (thread_part s t) call ≡ Some e → IsNext s t e
+at_call_of s t e None staged phased at is = cc
+at_call_of s t e (Some call) staged phased at is =
+    in_phase s t call e (thread_part s t).phase (record { calling = at; phased = refl; task = (at_call s t call at).1; served = served_call s t call staged at })
+    (subst (λ (c : Option Call). IsPhaseOf (thread_part s t).phase c) at (phased t)) is
+
+-- each next event is one of these
+pub choice : (s : State) (t : TaskId) (e : Event) → IsStaged s → PhasesLaw s → next_event s t ≡ Some e → IsNext s t e
+choice s t e staged phased is = at_call_of s t e (call_of (thread_part s t)) staged phased refl is

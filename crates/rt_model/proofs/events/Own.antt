@@ -1,0 +1,32 @@
+-- Own: how it comes about.
+use Rattle.std.proofs.Common.{◌≡◌, ℕ, Bool, true, false, cond, refl, Option, Some, None}
+use Rattle.std.specs.Prelude.{nat_lt}
+use Rattle.rt_base.specs.declared.call.Call.{Call}
+use Rattle.rt_base.specs.declared.id.TaskId.{TaskId}
+use Rattle.rt_base.specs.declared.reply.Reply.{Reply}
+use Rattle.rt_base.specs.declared.reply.Reply.TheVariants as replies
+use Rattle.rt_model.specs.declared.event.Event.{Event}
+use Rattle.rt_model.specs.declared.phase.Phase.TheVariants as phases
+use Rattle.rt_model.specs.Choice.{called_lock}
+use Rattle.rt_model.specs.State.{State, thread_part}
+use Rattle.rt_model.specs.events.Own.{unless_nested, if_held, if_not_held, own_answer, own_event}
+use Rattle.rt_model.proofs.Calling.{IsIn}
+
+-- the thread answers at once
+pub record IsOwn (s : State) (t : TaskId) (call : Call) (answer : Reply) (e : Event) : Type 0 where
+  pub at : IsIn s t phases.Start call
+  pub why : own_answer (thread_part s t) call ≡ Some answer
+  pub event : e ≡ own_event t (called_lock (thread_part s t).cpu call) answer
+
+-- an acquire that isn't answered at once is of a lock that isn't held, and a release of one that is
+pub not_held : (nested : ℕ) (held : Bool) → unless_nested nested (if_held held) ≡ None → held ≡ false
+not_held nested held is = by_test (nat_lt 0 nested) held is
+  where
+    by_test : (b h : Bool) → cond b (Some replies.Nesting) (if_held h) ≡ None → h ≡ false
+    by_test true h is = cc
+    by_test false true is = cc
+    by_test false false is = refl
+
+pub was_held : (held : Bool) → if_not_held held ≡ None → held ≡ true
+was_held true is = refl
+was_held false is = cc

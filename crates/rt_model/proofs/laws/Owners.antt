@@ -1,0 +1,152 @@
+-- A next event keeps the owners law.
+use Rattle.std.proofs.Common.{◌≡◌, ℕ, ◌<◌, Bool, true, false, cond, List, length, refl, sym, ap, ◌∙◌, subst, Option, Some, None}
+use Rattle.std.specs.Prelude.{nat_eq, nat_lt}
+use Rattle.std.proofs.lemmas.Bool.{cond-true, cond-false, cond_both}
+use Rattle.rt_base.specs.declared.call.Call.{Call}
+use Rattle.rt_base.specs.declared.call.Call.TheVariants as calls
+use Rattle.rt_base.specs.declared.id.LockId.{LockId}
+use Rattle.rt_base.specs.declared.id.TaskId.{TaskId}
+use Rattle.rt_base.specs.declared.kind.Kind.{Kind}
+use Rattle.rt_base.specs.declared.reply.Reply.{Reply}
+use Rattle.rt_base.specs.declared.reply.Reply.TheVariants as replies
+use Rattle.rt_model.specs.declared.event.Event.{Event}
+use Rattle.rt_model.specs.declared.hold.Hold.{Hold}
+use Rattle.rt_model.specs.Parts.{OwnerPart, ThreadPart, call_of, hold_of, kind_of}
+use Rattle.rt_model.specs.State.{State, shared, owner_part, task_part, thread_part}
+use Rattle.rt_model.specs.Rules.{touched}
+use Rattle.rt_model.specs.events.Own.{unless_nested, if_held, if_not_held, private_answer}
+use Rattle.rt_model.specs.steps.Thread.{with_hold, holds_after}
+use Rattle.rt_model.specs.StateAfter.{effect_in, thread_after, state_after}
+use Rattle.rt_model.specs.Stage.{IsServed}
+use Rattle.rt_model.specs.laws.Owners.{OwnersLaw, owned_by}
+use Rattle.rt_model.specs.laws.Lawful.{IsLawful}
+use Rattle.rt_model.proofs.NextEvents.{IsNext, by_own, by_acquire, by_wait, by_release}
+use Rattle.rt_model.proofs.events.Acquire.{is_fast, is_mark, is_take}
+use Rattle.rt_model.proofs.events.Wait.{is_wait, is_again}
+use Rattle.rt_model.proofs.events.Release.{is_free, is_give}
+use Rattle.rt_model.proofs.Numbers.{number_itself, same_lock, at_each_task, nobodys, one_owner}
+use Rattle.rt_model.proofs.Queues.{unowned-can_take}
+use Rattle.rt_model.proofs.Within.{holds_room}
+use Rattle.rt_model.proofs.PartsAfter.{read-set_same, read-set_other, lock-left, lock-keeps, thread-left}
+
+-- ---- holds
+
+-- a hold that is read after one was written
+read-with_hold : (thread : ThreadPart) (l m : LockId) (owns : Bool) → l.0 < length thread.holds
+    → (hold_of (record thread { holds = with_hold thread l owns }) m).owns ≡ cond (nat_eq l.0 m.0) owns (hold_of thread m).owns
+read-with_hold thread l m owns lt =
+    let hold : Hold = record (hold_of thread l) { owns = owns } in
+    let read : LockId → Hold = λ n. hold_of (record thread { holds = with_hold thread l owns }) n in
+    cond_both (nat_eq l.0 m.0) owns (hold_of thread m).owns (λ (b : Bool). (read m).owns ≡ b)
+    (λ is. subst (λ (n : LockId). (read n).owns ≡ owns) (same_lock l m is) (ap (λ (h : Hold). h.owns) (read-set_same thread.holds l.0 hold (record { owns = false; reads = 0 }) lt)))
+    (λ is. ap (λ (h : Hold). h.owns) (read-set_other thread.holds l.0 m.0 hold (record { owns = false; reads = 0 }) is))
+
+-- what a thread answers at once gives it no lock
+never_got : (nested : ℕ) (held : Bool) → unless_nested nested (if_held held) ≡ Some replies.Got → ⊥
+never_got nested held is = by_test (nat_lt 0 nested) held is
+  where
+    by_test : (b h : Bool) → cond b (Some replies.Nesting) (if_held h) ≡ Some replies.Got → ⊥
+    by_test true h is = cc
+    by_test false true is = cc
+    by_test false false is = cc
+
+never_done : (held : Bool) → if_not_held held ≡ Some replies.Done → ⊥
+never_done true is = cc
+never_done false is = cc
+
+refused_holds : (n : ℕ) (thread : ThreadPart) (call : Call) (answer : Reply) (kind : Option Kind) (nested : ℕ) (held : Bool) (migration : ℕ) → IsServed n call → private_answer call kind nested held migration ≡ Some answer
+    → holds_after thread (Some call) answer ≡ thread.holds
+refused_holds n thread (calls.Lock l) replies.Got kind nested held migration served is = absurd (never_got nested held is)
+refused_holds n thread (calls.Lock l) _ kind nested held migration served is = refl
+refused_holds n thread (calls.Unlock l) replies.Done kind nested held migration served is = absurd (never_done held is)
+refused_holds n thread (calls.Unlock l) _ kind nested held migration served is = refl
+refused_holds n thread _ answer kind nested held migration served is = absurd served
+
+-- what the thread holds, as its call says
+holds_at : (thread : ThreadPart) (call : Call) (answer : Reply) → call_of thread ≡ Some call → holds_after thread (call_of thread) answer ≡ holds_after thread (Some call) answer
+holds_at thread call answer is = ap (λ (c : Option Call). holds_after thread c answer) is
+
+-- ---- owners
+
+owned_either : (b : Bool) (o p : Option TaskId) (u : TaskId) → owned_by (cond b o p) u ≡ cond b (owned_by o u) (owned_by p u)
+owned_either true o p u = refl
+owned_either false o p u = refl
+
+-- a lock that a task owns neither before nor after is as it was to that task
+not_others : (s : State) (l m : LockId) (b : Bool) (u : TaskId) → nat_eq l.0 m.0 ≡ b → owned_by (owner_part s l).owner u ≡ false → cond b false (owned_by (owner_part s m).owner u) ≡ owned_by (owner_part s m).owner u
+not_others s l m true u is unowned = sym (subst (λ (n : LockId). owned_by (owner_part s n).owner u ≡ false) (same_lock l m is) unowned)
+not_others s l m false u is unowned = refl
+
+-- a lock that an event gives to o has that owner, and every other lock its own
+abbrev Gives : State → LockId → Option TaskId → LockId → OwnerPart → Type 0
+Gives s l o m lock = lock.owner ≡ cond (nat_eq l.0 m.0) o (owner_part s m).owner
+
+gives_here : (s : State) (l : LockId) (o : Option TaskId) → o ≡ cond (nat_eq l.0 l.0) o (owner_part s l).owner
+gives_here s l o = sym (cond-true (nat_eq l.0 l.0) o (owner_part s l).owner (number_itself l.0))
+
+gives_there : (s : State) (l m : LockId) (o : Option TaskId) → nat_eq l.0 m.0 ≡ false → (owner_part s m).owner ≡ cond (nat_eq l.0 m.0) o (owner_part s m).owner
+gives_there s l m o there = sym (cond-false (nat_eq l.0 m.0) o (owner_part s m).owner there)
+
+-- ---- the law
+
+module _ (s : State) (made : ℕ) (e : Event) (lawful : IsLawful s made) where
+  -- an event that changes neither its thread's holds nor any owner
+  pub owners_keep : e.task.0 < length s.threads → (thread_after (shared s) (thread_part s e.task) e).holds ≡ (thread_part s e.task).holds
+      → ((lock : OwnerPart) → ((effect_in (shared s) (thread_part s e.task) e).lock lock).owner ≡ lock.owner) → OwnersLaw (state_after s e)
+  owners_keep there holds keeps m u =
+      thread-left (λ v th. (hold_of th m).owns ≡ owned_by (owner_part (state_after s e) m).owner v) s e u there
+      (ap (λ (hs : List Hold). (hold_of (record (thread_part s e.task) { holds = hs }) m).owns) holds ∙ was e.task) (λ other. was u)
+    where
+      was : (v : TaskId) → (hold_of (thread_part s v) m).owns ≡ owned_by (owner_part (state_after s e) m).owner v
+      was v = lawful.owners m v ∙ sym (lock-keeps (λ lock. owned_by lock.owner v ≡ owned_by (owner_part s m).owner v) s e m refl (λ lock is. ap (λ (o : Option TaskId). owned_by o v) (keeps lock) ∙ is))
+
+  -- an event that gives its task a lock that nobody owns, or frees one that it owns
+  pub owners_change : (l : LockId) (o : Option TaskId) → (touched e.kind e).lock ≡ Some l → l.0 < length s.locks → e.task.0 < length s.threads
+      → (thread_after (shared s) (thread_part s e.task) e).holds ≡ with_hold (thread_part s e.task) l (owned_by o e.task) → ((effect_in (shared s) (thread_part s e.task) e).lock (owner_part s l)).owner ≡ o
+      → ((u : TaskId) → nat_eq e.task.0 u.0 ≡ false → (owned_by o u ≡ false) × (owned_by (owner_part s l).owner u ≡ false)) → OwnersLaw (state_after s e)
+  owners_change l o named lt there holds gives others m u =
+      thread-left (λ v th. (hold_of th m).owns ≡ owned_by (owner_part (state_after s e) m).owner v) s e u there
+      (ap (λ (hs : List Hold). (hold_of (record (thread_part s e.task) { holds = hs }) m).owns) holds ∙ (read-with_hold (thread_part s e.task) l m (owned_by o e.task) (holds_room s e.task l lawful.shape there lt)
+      ∙ (ap (λ (b : Bool). cond (nat_eq l.0 m.0) (owned_by o e.task) b) (lawful.owners m e.task) ∙ sym (owned e.task))))
+      (λ other. lawful.owners m u
+      ∙ sym (owned u ∙ (ap (λ (b : Bool). cond (nat_eq l.0 m.0) b (owned_by (owner_part s m).owner u)) (others u other).0 ∙ not_others s l m (nat_eq l.0 m.0) u refl (others u other).1)))
+    where
+      given : (owner_part (state_after s e) m).owner ≡ cond (nat_eq l.0 m.0) o (owner_part s m).owner
+      given = lock-left (Gives s l o) s e l m named lt (gives ∙ gives_here s l o) (gives_there s l m o)
+
+      owned : (v : TaskId) → owned_by (owner_part (state_after s e) m).owner v ≡ cond (nat_eq l.0 m.0) (owned_by o v) (owned_by (owner_part s m).owner v)
+      owned v = ap (λ (p : Option TaskId). owned_by p v) given ∙ owned_either (nat_eq l.0 m.0) o (owner_part s m).owner v
+
+-- the same of an event that comes about as x
+pub keep_owners : (s : State) (made : ℕ) (e x : Event) → IsLawful s made → e ≡ x → x.task.0 < length s.threads → (thread_after (shared s) (thread_part s x.task) x).holds ≡ (thread_part s x.task).holds
+    → ((lock : OwnerPart) → ((effect_in (shared s) (thread_part s x.task) x).lock lock).owner ≡ lock.owner) → OwnersLaw (state_after s e)
+keep_owners s made e x lawful is there holds keeps = subst (λ (y : Event). OwnersLaw (state_after s y)) (sym is) (owners_keep s made x lawful there holds keeps)
+
+pub change_owner : (s : State) (made : ℕ) (e x : Event) (l : LockId) (o : Option TaskId) → IsLawful s made → e ≡ x → (touched x.kind x).lock ≡ Some l → l.0 < length s.locks → x.task.0 < length s.threads
+    → (thread_after (shared s) (thread_part s x.task) x).holds ≡ with_hold (thread_part s x.task) l (owned_by o x.task) → ((effect_in (shared s) (thread_part s x.task) x).lock (owner_part s l)).owner ≡ o
+    → ((u : TaskId) → nat_eq x.task.0 u.0 ≡ false → (owned_by o u ≡ false) × (owned_by (owner_part s l).owner u ≡ false)) → OwnersLaw (state_after s e)
+change_owner s made e x l o lawful is named lt there holds gives others = subst (λ (y : Event). OwnersLaw (state_after s y)) (sym is) (owners_change s made x lawful l o named lt there holds gives others)
+
+pub OwnersLaw-next : (s : State) (made : ℕ) (t : TaskId) (e : Event) → IsLawful s made → IsNext s t e → OwnersLaw (state_after s e)
+OwnersLaw-next s made t e lawful next = by_kind next
+  where
+    nobodys_before : (l : LockId) → (owner_part s l).owner ≡ None → (u : TaskId) → nat_eq t.0 u.0 ≡ false → (nat_eq t.0 u.0 ≡ false) × (owned_by (owner_part s l).owner u ≡ false)
+    nobodys_before l none u other = (other, nobodys (owner_part s l).owner u none)
+
+    its_before : (l : LockId) → (hold_of (thread_part s t) l).owns ≡ true → (u : TaskId) → nat_eq t.0 u.0 ≡ false → (false ≡ false) × (owned_by (owner_part s l).owner u ≡ false)
+    its_before l held u other = (refl, one_owner (owner_part s l).owner t u (sym (lawful.owners l t) ∙ held) other)
+
+    taken : (l : LockId) → call_of (thread_part s t) ≡ Some (calls.Lock l) → holds_after (thread_part s t) (call_of (thread_part s t)) replies.Got ≡ with_hold (thread_part s t) l (owned_by (Some t) t)
+    taken l calling = holds_at (thread_part s t) (calls.Lock l) replies.Got calling ∙ ap (with_hold (thread_part s t) l) (sym (number_itself t.0))
+
+    by_kind : IsNext s t e → OwnersLaw (state_after s e)
+    by_kind (by_own call answer is) =
+        keep_owners s made e _ lawful is.event is.at.task (holds_at (thread_part s t) call answer is.at.calling ∙ refused_holds (length s.locks) (thread_part s t) call answer _ _ _ _ is.at.served is.why) (λ lock. refl)
+    by_kind (by_acquire l (is_mark is)) = keep_owners s made e _ lawful is.event is.at.task refl (λ lock. refl)
+    by_kind (by_wait l (is_wait is)) = keep_owners s made e _ lawful is.event is.at.task refl (λ lock. refl)
+    by_kind (by_wait l (is_again is)) = keep_owners s made e _ lawful is.event is.at.task refl (λ lock. refl)
+    by_kind (by_acquire l (is_fast is)) = change_owner s made e _ l (Some t) lawful is.event refl is.at.served is.at.task (taken l is.at.calling) refl (nobodys_before l is.owner)
+    by_kind (by_acquire l (is_take is)) =
+        change_owner s made e _ l (Some t) lawful is.event refl is.at.served is.at.task (taken l is.at.calling) refl (nobodys_before l (unowned-can_take t (kind_of (thread_part s t) l) (owner_part s l) (task_part s t) is.can))
+    by_kind (by_release l (is_free is)) = change_owner s made e _ l None lawful is.event refl is.at.served is.at.task (holds_at (thread_part s t) (calls.Unlock l) replies.Done is.at.calling) refl (its_before l is.held)
+    by_kind (by_release l (is_give is)) = change_owner s made e _ l None lawful is.event refl is.at.served is.at.task (holds_at (thread_part s t) (calls.Unlock l) replies.Done is.at.calling) refl (its_before l is.held)

@@ -1,0 +1,197 @@
+-- An event leaves a state in shape, and one of its script.
+use Rattle.std.proofs.Common.{◌≡◌, ℕ, zero, suc, ◌<◌, List, [], ◌∷◌, length, map, not, refl, sym, ap, ◌∙◌, subst, arith, Option, Some, None, All, IfSome, length-set, unwrap_or}
+use Rattle.std.specs.Prelude.{slice_get}
+use Rattle.std.proofs.lemmas.List.Elements.{All-filter}
+use Rattle.rt_base.specs.Kind.{spins}
+use Rattle.rt_base.specs.Script.{Script}
+use Rattle.rt_base.specs.declared.call.Call.{Call}
+use Rattle.rt_base.specs.declared.call.Call.TheVariants as calls
+use Rattle.rt_base.specs.declared.kind.Kind.{Kind}
+use Rattle.rt_base.specs.declared.kind.Kind.TheVariants.{Mutex}
+use Rattle.rt_base.specs.declared.reply.Reply.{Reply}
+use Rattle.rt_base.specs.declared.reply.Reply.TheVariants as replies
+use Rattle.rt_model.specs.declared.event.Event.{Event}
+use Rattle.rt_model.specs.declared.event_kind.EventKind.{EventKind}
+use Rattle.rt_model.specs.declared.event_kind.EventKind.TheVariants as kinds
+use Rattle.rt_model.specs.declared.row.Row.{Row}
+use Rattle.rt_model.specs.Parts.{OwnerPart, TaskPart, ThreadPart, call_of, effective_of, kind_named}
+use Rattle.rt_model.specs.Rows.{is_of}
+use Rattle.rt_model.specs.State.{State, Shared, shared, thread_part, kinds_in}
+use Rattle.rt_model.specs.steps.Task.{rest_of}
+use Rattle.rt_model.specs.Effect.{Touched, Around, Effect, around}
+use Rattle.rt_model.specs.Rules.{touched, effect}
+use Rattle.rt_model.specs.StateAfter.{update, at_task, effect_in, lock_left, tasks_left, shared_after, thread_after, state_after}
+use Rattle.rt_model.specs.steps.Thread.{holds_after, answered_with}
+use Rattle.rt_model.specs.Stage.{IsServed, IsStaged}
+use Rattle.rt_model.specs.laws.Shape.{IsShaped, IsOf, SameSize}
+use Rattle.rt_model.proofs.Lists.{length-update, All-update, All-default, length-at_lock, length-at_task, All-at_lock, All-at_task}
+use Rattle.rt_model.proofs.Queues.{All-insert_row}
+use Rattle.rt_model.proofs.CellStepLemmas.{leave_queue-like, blocked_on-like, lock_woken-like, length-with_top}
+use Rattle.rt_model.proofs.Within.{HoldsFit}
+use Rattle.std.proofs.lemmas.List.{length-map}
+
+abbrev OwnerIn : ℕ → OwnerPart → Type 0
+OwnerIn n lock = IfSome lock.owner (λ t. t.0 < n)
+
+abbrev RowsIn : ℕ → OwnerPart → Type 0
+RowsIn n lock = All (λ (row : Row). row.who < n) lock.rows
+
+abbrev KeptFits : ℕ → TaskPart → Type 0
+KeptFits n task = length task.kept ≡ n
+
+abbrev KindsFit : ℕ → ThreadPart → Type 0
+KindsFit n thread = length thread.kinds ≡ n
+
+abbrev AreServed : ℕ → ThreadPart → Type 0
+AreServed n thread = All (IsServed n) thread.calls
+
+abbrev AreMutexes : ThreadPart → Type 0
+AreMutexes thread = All (λ (kind : Kind). kind ≡ Mutex) thread.kinds
+
+-- ---- a lock
+
+owner-left : (n : ℕ) (kind : EventKind) (e : Event) (th : ThreadPart) (found : Around) → e.task.0 < n → (lock : OwnerPart) → OwnerIn n lock → OwnerIn n ((effect kind e th found).lock lock)
+owner-left n kinds.Fast e th found lt lock is = lt
+owner-left n kinds.Free e th found lt lock is = tt
+owner-left n kinds.Take e th found lt lock is = lt
+owner-left n kinds.Give e th found lt lock is = tt
+owner-left n _ e th found lt lock is = is
+
+rows-left : (n : ℕ) (kind : EventKind) (e : Event) (th : ThreadPart) (found : Around) → e.task.0 < n → (lock : OwnerPart) → RowsIn n lock → RowsIn n ((effect kind e th found).lock lock)
+rows-left n kinds.Take e th found lt lock all = All-filter (λ row. not (is_of e.task row)) (λ (row : Row). row.who < n) lock.rows all
+rows-left n kinds.Wait e th found lt lock all = All-insert_row (λ (row : Row). row.who < n) (record { key = effective_of found.own; ticket = lock.ticket; who = e.task.0 }) lock.rows lt all
+rows-left n _ e th found lt lock all = all
+
+-- ---- a task
+
+record KeepsLong (f : Effect) (lock : OwnerPart) : Type 0 where
+  own : (task : TaskPart) → length (f.own lock task).kept ≡ length task.kept
+  owner : (task : TaskPart) → length (f.owner lock task).kept ≡ length task.kept
+  other : (task : TaskPart) → length (f.other lock task).kept ≡ length task.kept
+  woken : (task : TaskPart) → length (f.woken lock task).kept ≡ length task.kept
+
+long-left : (kind : EventKind) (e : Event) (th : ThreadPart) (found : Around) (lock : OwnerPart) → KeepsLong (effect kind e th found) lock
+long-left kinds.Take e th found lock = record {
+  own = λ task. length-with_top e.lock _ _ ∙ ap length (leave_queue-like (spins (kind_named th e.lock)) task).kept;
+  owner = λ task. refl; other = λ task. refl; woken = λ task. refl;
+}
+long-left kinds.Wait e th found lock = record {
+  own = λ task. ap length (blocked_on-like e.lock (rest_of (kind_named th e.lock) (call_of th)) task).kept;
+  owner = λ task. length-with_top e.lock _ task; other = λ task. refl; woken = λ task. refl;
+}
+long-left kinds.Give e th found lock = record {
+  own = λ task. length-with_top e.lock None task;
+  owner = λ task. refl; other = λ task. refl; woken = λ task. ap length (lock_woken-like (spins (kind_named th e.lock)) task).like.kept;
+}
+long-left _ e th found lock = record { own = λ task. refl; owner = λ task. refl; other = λ task. refl; woken = λ task. refl }
+
+-- ---- a thread
+
+-- what the thread's change and an answer leave
+pub record KeepsThread (before after : ThreadPart) : Type 0 where
+  pub kinds : after.kinds ≡ before.kinds
+  pub calls : after.calls ≡ before.calls
+  pub holds : length after.holds ≡ length before.holds
+
+phase-left : (kind : EventKind) (e : Event) (th : ThreadPart) (found left : Around) (old : ThreadPart) → KeepsThread old ((effect kind e th found).thread left old)
+phase-left kinds.Mark e th found left old = record { kinds = refl; calls = refl; holds = refl }
+phase-left _ e th found left old = record { kinds = refl; calls = refl; holds = refl }
+
+length-holds_after : (thread : ThreadPart) (call : Option Call) (answer : Reply) → length (holds_after thread call answer) ≡ length thread.holds
+length-holds_after thread (Some (calls.Lock l)) replies.Got = simp length-set
+length-holds_after thread (Some (calls.Unlock l)) replies.Done = simp length-set
+length-holds_after thread call answer = refl
+
+answer-left : (thread : ThreadPart) (reply : Option Reply) → KeepsThread thread (answered_with thread reply)
+answer-left thread None = record { kinds = refl; calls = refl; holds = refl }
+answer-left thread (Some answer) = record { kinds = refl; calls = refl; holds = length-holds_after thread (call_of thread) answer }
+
+pub thread-keeps : (sh : Shared) (th : ThreadPart) (e : Event) → KeepsThread th (thread_after sh th e)
+thread-keeps sh th e =
+    let phased = phase-left e.kind e th (around sh (touched e.kind e)) (around (shared_after sh th e) (touched e.kind e)) th in
+    let answered = answer-left ((effect_in sh th e).thread (around (shared_after sh th e) (touched e.kind e)) th) e.reply in
+    record { kinds = answered.kinds ∙ phased.kinds; calls = answered.calls ∙ phased.calls; holds = answered.holds ∙ phased.holds }
+
+-- ---- the state
+
+tasks-keep : (P : TaskPart → Type 0) (named : Touched) (f : Effect) (lock : OwnerPart) (xs : List TaskPart) → ((task : TaskPart) → P task → P (f.own lock task)) → ((task : TaskPart) → P task → P (f.owner lock task))
+    → ((task : TaskPart) → P task → P (f.other lock task)) → ((task : TaskPart) → P task → P (f.woken lock task)) → All P xs → All P (tasks_left named f lock xs)
+tasks-keep P named f lock xs own owner other woken all =
+    All-at_task P _ named.woken (f.woken lock) woken (All-at_task P _ named.other (f.other lock) other (All-at_task P _ named.owner (f.owner lock) owner (All-at_task P xs named.own (f.own lock) own all)))
+
+length-tasks : (named : Touched) (f : Effect) (lock : OwnerPart) (xs : List TaskPart) → length (tasks_left named f lock xs) ≡ length xs
+length-tasks named f lock xs =
+    length-at_task _ named.woken (f.woken lock) ∙ (length-at_task _ named.other (f.other lock) ∙ (length-at_task _ named.owner (f.owner lock) ∙ length-at_task xs named.own (f.own lock)))
+
+module _ (s : State) (e : Event) (lt : e.task.0 < length s.threads) where
+  f : Effect
+  f = effect_in (shared s) (thread_part s e.task) e
+
+  lock : OwnerPart
+  lock = lock_left (shared s) (thread_part s e.task) e
+
+  locks : length (state_after s e).locks ≡ length s.locks
+  locks = length-at_lock s.locks (touched e.kind e).lock (effect_in (shared s) (thread_part s e.task) e).lock
+
+  threads : length (state_after s e).threads ≡ length s.threads
+  threads = length-update s.threads e.task.0 _
+
+  -- what threads have that a thread keeps
+  threads-keep : (P : ThreadPart → Type 0) → ((after : ThreadPart) → KeepsThread (thread_part s e.task) after → P (thread_part s e.task) → P after) → All P s.threads → All P (state_after s e).threads
+  threads-keep P keeps all = All-update P s.threads e.task.0 _ (λ old was. keeps _ (thread-keeps (shared s) (thread_part s e.task) e) (All-default P s.threads e.task.0 _ all lt)) all
+
+  pub IsShaped-after : IsShaped s → IsShaped (state_after s e)
+  IsShaped-after shaped =
+      let long = long-left e.kind e (thread_part s e.task) (around (shared s) (touched e.kind e)) (lock_left (shared s) (thread_part s e.task) e) in
+      let n = length s.locks in
+      record {
+        few_tasks = rw threads shaped.few_tasks;
+        few_locks = rw locks shaped.few_locks;
+        readers = length-at_lock s.readers (touched e.kind e).readers _ ∙ (shaped.readers ∙ sym locks);
+        tasks = length-tasks (touched e.kind e) (effect_in (shared s) (thread_part s e.task) e) (lock_left (shared s) (thread_part s e.task) e) s.tasks ∙ (shaped.tasks ∙ sym threads);
+        kept = subst (λ (k : ℕ). All (KeptFits k) (state_after s e).tasks) (sym locks)
+            (tasks-keep (KeptFits n) (touched e.kind e) (effect_in (shared s) (thread_part s e.task) e) (lock_left (shared s) (thread_part s e.task) e) s.tasks (λ task is. long.own task ∙ is) (λ task is. long.owner task ∙ is) (λ task is. long.other task ∙ is) (λ task is. long.woken task ∙ is) shaped.kept);
+        kinds = subst (λ (k : ℕ). All (KindsFit k) (state_after s e).threads) (sym locks) (threads-keep (KindsFit n) (λ after is was. ap length is.kinds ∙ was) shaped.kinds);
+        holds = subst (λ (k : ℕ). All (HoldsFit k) (state_after s e).threads) (sym locks) (threads-keep (HoldsFit n) (λ after is was. is.holds ∙ was) shaped.holds);
+        owners = subst (λ (k : ℕ). All (OwnerIn k) (state_after s e).locks) (sym threads)
+            (All-at_lock (OwnerIn (length s.threads)) s.locks (touched e.kind e).lock _ (owner-left (length s.threads) e.kind e (thread_part s e.task) (around (shared s) (touched e.kind e)) lt) shaped.owners);
+        rows = subst (λ (k : ℕ). All (RowsIn k) (state_after s e).locks) (sym threads)
+            (All-at_lock (RowsIn (length s.threads)) s.locks (touched e.kind e).lock _ (rows-left (length s.threads) e.kind e (thread_part s e.task) (around (shared s) (touched e.kind e)) lt) shaped.rows);
+      }
+
+  -- how far the stage goes
+  pub IsStaged-after : IsStaged s → IsStaged (state_after s e)
+  IsStaged-after staged = record {
+    one_lock = rw locks staged.one_lock;
+    mutexes = threads-keep AreMutexes (λ after is was. subst (All (λ (kind : Kind). kind ≡ Mutex)) (sym is.kinds) was) staged.mutexes;
+    served = subst (λ (k : ℕ). All (AreServed k) (state_after s e).threads) (sym locks)
+        (threads-keep (AreServed (length s.locks)) (λ after is was. subst (All (IsServed (length s.locks))) (sym is.calls) was) staged.served);
+  }
+
+-- ---- the script
+
+map-write : {X Y : Type 0} (g : X → Y) (xs : List X) (i : ℕ) (x d : X) → g x ≡ g (unwrap_or (slice_get xs i) d) → map g (update xs i (λ old. x)) ≡ map g xs
+map-write g [] i x d is = refl
+map-write g (y ∷ xs) zero x d is = ap (λ z. z ∷ map g xs) is
+map-write g (y ∷ xs) (suc i) x d is = ap (λ zs. g y ∷ zs) (map-write g xs i x d is)
+
+pub IsOf-after : (script : Script) (s : State) (e : Event) → e.task.0 < length s.threads → IsOf script s → IsOf script (state_after s e)
+IsOf-after script s e lt is = record {
+  locks = length-at_lock s.locks (touched e.kind e).lock _ ∙ is.locks;
+  readers = length-at_lock s.readers (touched e.kind e).readers _ ∙ is.readers;
+  tasks = length-tasks (touched e.kind e) (effect_in (shared s) (thread_part s e.task) e) (lock_left (shared s) (thread_part s e.task) e) s.tasks ∙ is.tasks;
+  kinds = threads-keep s e lt (λ (thread : ThreadPart). thread.kinds ≡ kinds_in script) (λ after keeps was. keeps.kinds ∙ was) is.kinds;
+  calls = map-write (λ (thread : ThreadPart). thread.calls) s.threads e.task.0 _ _ (thread-keeps (shared s) (thread_part s e.task) e).calls ∙ is.calls;
+}
+
+threads-of : (script : Script) (s : State) → IsOf script s → length s.threads ≡ length script.tasks
+threads-of script s is = sym (length-map s.threads (λ (thread : ThreadPart). thread.calls)) ∙ (ap length is.calls ∙ length-map script.tasks _)
+
+-- two states of one script have one size
+pub SameSize-of : (script : Script) (s other : State) → IsOf script s → IsOf script other → SameSize s other
+SameSize-of script s other is is_other = record {
+  locks = is_other.locks ∙ sym is.locks;
+  readers = is_other.readers ∙ sym is.readers;
+  tasks = is_other.tasks ∙ sym is.tasks;
+  threads = threads-of script other is_other ∙ sym (threads-of script s is);
+}

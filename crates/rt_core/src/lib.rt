@@ -2,18 +2,17 @@
 //! that tells where tasks and locks stand.
 #![tactic(auto)]
 
-mod beginning;
-mod change;
-mod choice;
-mod filled;
+mod effect;
 mod lock_cell;
 mod machine;
 #[cfg(test)]
 mod machine_tests;
+mod next;
 mod note;
-mod refuses;
+mod playable;
 mod report;
-mod serving;
+mod shared;
+mod start;
 mod task_cell;
 mod thread;
 mod waiters;

@@ -1,7 +1,7 @@
 ghost use Rattle.std.specs.Prelude.{◌≡◌, ◌<◌, ◌≤◌, ◌^◌, min, true, None, Some, IfOk, IfSome, option_map};
 ghost use Rattle.rt_model.specs.State.{free_lock};
-ghost use Rattle.rt_model.specs.Rows.{top_waiter, top_key, row_of, queued_key, without, reason_before, reason_among, reason_to_take};
-ghost use Rattle.rt_model.specs.Steps.{queued, left_by, given_up};
+ghost use Rattle.rt_model.specs.Rows.{top_waiter, top_key, row_of, queued_key, without, reason_before, reason_among, may_take};
+ghost use Rattle.rt_model.specs.steps.Lock.{queued, left_by, given_up};
 ghost use Rattle.rt_core.specs.Cells.{HasPriorities, is_first, is_top};
 
 use crate::waiters::Waiters;
@@ -14,7 +14,6 @@ use std::marker::Model;
 /// is set, and who waits.
 #[derive(Drop)]
 pub struct LockCell {
-    kind: Kind,
     owner: Option<TaskId>,
     bit: bool,
     waiters: Waiters,
@@ -26,31 +25,23 @@ impl Model for LockCell {
 
     ghost Value = { OwnerCell };
 
-    ghost view = { λ c. record { part = record { kind = c.kind; owner = c.owner; bit = c.bit; rows = c.waiters.rows; ticket = c.ticket }; tasks = c.waiters.room } };
+    ghost view = { λ c. record { part = record { owner = c.owner; bit = c.bit; rows = c.waiters.rows; ticket = c.ticket }; tasks = c.waiters.room } };
 
     ghost invariant = { λ c. HasPriorities c.waiters.rows × HasTickets c.ticket c.waiters.rows };
 }
 
 impl LockCell {
     /// A free lock that nobody waits for, with room for so many tasks.
-    pub fn new(alloc: Global, kind: Kind, tasks: u32) -> Result<LockCell, NoMemory>
-        ensures { IfOk result (λ cell. cell ≡ record { part = free_lock kind; tasks = tasks }) }
+    pub fn new(alloc: Global, tasks: u32) -> Result<LockCell, NoMemory>
+        ensures { IfOk result (λ cell. cell ≡ record { part = free_lock; tasks = tasks }) }
     {
         let waiters = Waiters::with_room(alloc, tasks)?;
         Ok(LockCell {
-            kind,
             owner: None,
             bit: false,
             waiters,
             ticket: 0,
         })
-    }
-
-    /// Its kind, which never changes.
-    pub fn kind(&self) -> Kind
-        ensures { result ≡ self.now.part.kind }
-    {
-        self.kind
     }
 
     /// The task that owns the lock.
@@ -132,27 +123,27 @@ impl LockCell {
     }
 
     /// Why a task that asks with this priority may take the lock, where it may, `try_to_take_rt_mutex`.
-    pub fn may_take(&self, t: TaskId, key: Prio) -> Option<Reason>
-        ensures { result ≡ reason_to_take t key self.now.part }
+    pub fn may_take(&self, t: TaskId, key: Prio, kind: Kind) -> Option<Reason>
+        ensures { result ≡ may_take t key kind self.now.part }
     {
         if self.owner.is_some() {
             return None;
         }
-        reason_among(t, key, self.kind, self.waiters.top())
+        reason_among(t, key, kind, self.waiters.top())
     }
 }
 
 // The steps of which events are made.
 impl LockCell {
     /// Makes a task the owner.
-    pub fn acquire(&mut self, t: TaskId)
+    pub fn set_owner(&mut self, t: TaskId)
         ensures { self.new ≡ record self.old { part = record self.old.part { owner = Some t } } }
     {
         self.owner = Some(t);
     }
 
     /// Leaves the lock without owner.
-    pub fn release(&mut self)
+    pub fn clear_owner(&mut self)
         ensures { self.new ≡ record self.old { part = record self.old.part { owner = None } } }
     {
         self.owner = None;

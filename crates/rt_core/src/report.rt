@@ -123,7 +123,7 @@ pub(crate) fn write_lock_line(
     prove!(named);
     append(out, b"lock");
     push_owner(script, l, cell, out);
-    push_readers(cell.kind(), readers, out);
+    push_readers(script.kind(l), readers, out);
     push_rows(script, cell.waiters().rows(), out);
     push_byte(out, b'\n');
 }

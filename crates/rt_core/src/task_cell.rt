@@ -1,9 +1,8 @@
 ghost use Rattle.std.specs.Prelude.{◌≡◌, ◌<◌, ◌∷◌, ◌||◌, [], length, option_map, None, Some, slice_set, slice_index_or, IfOk, if◌then◌else◌};
-ghost use Rattle.rt_model.specs.Parts.{effective_of, least};
+ghost use Rattle.rt_model.specs.Parts.{effective_of, least, keys_in};
 ghost use Rattle.rt_model.specs.State.{fresh_task};
-ghost use Rattle.rt_model.specs.Steps.{with_top, blocked_on, unrested, unblocked, sleeps, woken_up, lock_state_woken, lock_woken};
+ghost use Rattle.rt_model.specs.steps.Task.{with_top, blocked_on, restored, leave_queue, sleeps, woken_up, lock_state_woken, lock_woken};
 
-use crate::filled::filled;
 use crate::woken::Woken;
 use rt_base::{LockId, NoMemory, Prio, TaskState};
 use std::alloc::Global;
@@ -24,13 +23,13 @@ pub struct TaskCell {
 
 impl Model for TaskCell {
     ghost use Rattle.std.specs.Prelude.{◌≡◌};
-    ghost use Rattle.rt_model.specs.Parts.{TaskPart, least};
+    ghost use Rattle.rt_model.specs.Parts.{TaskPart, least, keys_in};
 
     ghost Value = { TaskPart };
 
     ghost view = { λ c. record { own = c.own; kept = c.kept.items; blocked = c.blocked; state = c.state; saved = c.saved; signal = c.signal } };
 
-    ghost invariant = { λ c. c.effective ≡ least c.own c.kept.items };
+    ghost invariant = { λ c. c.effective ≡ least c.own (keys_in c.kept.items) };
 }
 
 impl TaskCell {
@@ -38,7 +37,7 @@ impl TaskCell {
     pub fn new(alloc: Global, own: Prio, locks: u32) -> Result<TaskCell, NoMemory>
         ensures { IfOk result (λ cell. cell ≡ fresh_task locks own) }
     {
-        let kept = filled(alloc, None, locks)?;
+        let kept = vec![in alloc; None; locks as usize]?;
         Ok(TaskCell {
             own,
             effective: own,
@@ -75,7 +74,7 @@ impl TaskCell {
     }
 
     /// The lock that it waits for, and the priority that it is queued with.
-    pub fn place(&self) -> Option<(LockId, Prio)>
+    pub fn blocked_at(&self) -> Option<(LockId, Prio)>
         ensures { result ≡ self.now.blocked }
     {
         self.blocked
@@ -172,7 +171,7 @@ impl TaskCell {
 
     /// Goes on after a wait for a lock, `current_restore_rtlock_saved_state` where its kind spins.
     pub fn restore(&mut self, spins: bool)
-        ensures { self.new ≡ unrested spins self.old }
+        ensures { self.new ≡ restored spins self.old }
     {
         if spins {
             self.state = self.saved;
@@ -184,7 +183,7 @@ impl TaskCell {
 
     /// Goes on where it waited for a lock, which it doesn't any more.
     pub fn leave_queue(&mut self, spins: bool)
-        ensures { self.new ≡ unblocked spins self.old }
+        ensures { self.new ≡ leave_queue spins self.old }
     {
         if self.blocked.is_some() {
             self.restore(spins);
@@ -222,7 +221,7 @@ impl TaskCell {
 
 // The best of a priority and the kept ones, with this one in place of what is kept of a lock.
 fn least_with(own: Prio, kept: &[Option<Prio>], l: LockId, top: Option<Prio>) -> Prio
-    ensures { result ≡ least own (slice_set kept.now l.0 top) }
+    ensures { result ≡ least own (keys_in (slice_set kept.now l.0 top)) }
 {
     let mut best = own;
     for i in 0..kept.len() {
@@ -241,7 +240,7 @@ fn kept_with(kept: &[Option<Prio>], i: usize, l: LockId, top: &Option<Prio>) -> 
 
 // The better of a priority and a kept one.
 fn better(prio: Prio, kept: Option<Prio>) -> Prio
-    ensures { result ≡ least prio (kept ∷ []) }
+    ensures { result ≡ least prio (keys_in (kept ∷ [])) }
 {
     match kept {
         Some(key) => key.min(prio),

@@ -1,4 +1,4 @@
-ghost use Rattle.rt_model.specs.Laws.{IsAhead};
+ghost use Rattle.rt_model.specs.laws.Rows.{IsAhead};
 ghost use Rattle.std.specs.Prelude.{◌≡◌, ◌≢◌, ◌<◌, ◌≤◌, [], length, All, AllPairs, None, IfOk, vec_len, vec_capacity};
 ghost use Rattle.std.specs.List.{insert};
 ghost use Rattle.rt_model.specs.Rows.{top_waiter, row_of, goes_before, insert_row, without};
@@ -18,7 +18,7 @@ pub struct Waiters {
 
 impl Model for Waiters {
     ghost use Rattle.std.specs.Prelude.{◌≤◌, vec_capacity, AllPairs};
-    ghost use Rattle.rt_model.specs.Laws.{IsAhead};
+    ghost use Rattle.rt_model.specs.laws.Rows.{IsAhead};
     ghost use Rattle.rt_core.specs.Cells.{Queue, AreQueued};
 
     ghost Value = { Queue };

@@ -1,6 +1,7 @@
 // Which scripts the machine plays.
 ghost use Rattle.std.specs.Prelude.{◌≡◌, ◌↔◌, ◌≤◌, length, All, IsTrue};
-ghost use Rattle.rt_base.specs.Script.{TaskLine, LockLine, IsMutexCall, HasOneMutex};
+ghost use Rattle.rt_base.specs.Script.{TaskLine, LockLine};
+ghost use Rattle.rt_model.specs.Stage.{IsMutexCall, HasOneMutex};
 ghost use Rattle.rt_base.specs.declared.kind.Kind.TheVariants.{Mutex};
 
 use rt_base::{Call, Kind, LockId, TaskId};

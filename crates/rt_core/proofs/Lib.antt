@@ -1,10 +1,4 @@
-pub mod Fronts
-pub mod FrontsAll
-pub mod StartCells
-pub mod PartsOf
-pub mod Applying
-pub mod Queues
-pub mod Tops
-pub mod Notes
-pub mod Told
+pub mod Prefixes
+pub mod PrefixesAll
+pub mod OwnerParts
 pub mod ReportShort

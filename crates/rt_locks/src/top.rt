@@ -1,0 +1,53 @@
+ghost use Rattle.std.specs.Prelude.{◌≡◌, ◌≤◌, not, option_map, IfSome, AllPairs};
+ghost use Rattle.rt_model.specs.laws.Rows.{IsAhead};
+ghost use Rattle.rt_model.specs.Rows.{task_of, top_waiter, without};
+ghost use Rattle.rt_locks.specs.Top.{is_first, is_same};
+
+use rt_base::{Prio, TaskId};
+use rt_model::Row;
+
+// The priority of a row.
+pub fn key_in(row: Option<Row>) -> Option<Prio>
+    requires { IfSome row (λ r. r.key ≤ 139) }
+    ensures { result ≡ option_map (λ r. r.key) row }
+{
+    match row {
+        Some(row) => Prio::new(row.key),
+        None => None,
+    }
+}
+
+// The task of a row.
+pub fn task_in(row: Option<Row>) -> Option<TaskId>
+    ensures { result ≡ option_map task_of row }
+{
+    match row {
+        Some(row) => Some(TaskId(row.who)),
+        None => None,
+    }
+}
+
+// Whether the top row is the task's.
+pub fn is_first(top: Option<Row>, t: TaskId) -> bool
+    ensures { result ≡ is_first t top }
+{
+    match top {
+        Some(row) => row.who == t.0,
+        None => false,
+    }
+}
+
+// Whether another row is the top one now.
+pub fn is_changed(old: Option<Row>, new: Option<Row>) -> bool
+    ensures { result ≡ not (is_same old new) }
+{
+    old != new
+}
+
+// The first row of another task.
+pub fn first_other(rows: &[Row], t: TaskId) -> Option<Row>
+    requires { AllPairs IsAhead rows.now }
+    ensures { result ≡ top_waiter (without t rows.now) }
+{
+    rows.iter().find(|row| row.who != t.0).copied()
+}

@@ -1,0 +1,4 @@
+pub use Rattle.rt_model.specs.Parts
+pub use Rattle.rt_model.specs.State
+pub use Rattle.rt_model.specs.laws
+pub use Rattle.rt_model.specs.steps

@@ -1,0 +1,11 @@
+//! The public part of a task: its priorities, the lock that it waits for, and its states.
+#![tactic(auto)]
+
+mod kept;
+mod task_cell;
+#[cfg(test)]
+mod task_cell_tests;
+mod woken;
+
+pub use task_cell::TaskCell;
+pub use woken::Woken;

@@ -1,0 +1,337 @@
+ghost use Rattle.std.specs.Prelude.{◌≡◌, ◌<◌, ◌||◌, length, option_map, is_some, true, false, None, Some, IfOk, IsSome, if◌then◌else◌};
+ghost use Rattle.rt_model.specs.Parts.{effective_of};
+ghost use Rattle.rt_model.specs.State.{fresh_task};
+ghost use Rattle.rt_model.specs.laws.KeptTops.{kept_of};
+ghost use Rattle.rt_model.specs.steps.Task.{with_top, blocked_on, restored, leave_queue, sleeps, woken_up, is_interruptible, signalled, lock_state_woken, lock_woken};
+
+use crate::kept::{least_of, least_with};
+use crate::woken::Woken;
+use rt_base::{LockId, NoMemory, Prio, TaskState};
+use std::alloc::Global;
+use std::marker::Model;
+
+/// A task's public part, as far as the kernel's `task_struct` has it: its own and its effective
+/// priority, the kept tops, which are the top waiters of the locks that it owns (`pi_waiters`), the lock
+/// that it waits for, its states and its pending signal.
+#[derive(Drop)]
+pub struct TaskCell {
+    own: Prio,
+    effective: Prio,
+    kept: Vec<Option<Prio>>,
+    blocked: Option<(LockId, Prio)>,
+    state: TaskState,
+    saved: TaskState,
+    signal: bool,
+}
+
+impl Model for TaskCell {
+    ghost use Rattle.std.specs.Prelude.{◌≡◌};
+    ghost use Rattle.rt_model.specs.Parts.{TaskPart, least, keys_in};
+
+    ghost Value = { TaskPart };
+
+    ghost view = { λ c. record { own = c.own; kept = c.kept.items; blocked = c.blocked; state = c.state; saved = c.saved; signal = c.signal } };
+
+    ghost invariant = { λ c. c.effective ≡ least c.own (keys_in c.kept.items) };
+}
+
+impl TaskCell {
+    /// A running task that keeps no tops, of so many locks, and waits for none.
+    pub fn new(alloc: Global, own: Prio, locks: u32) -> Result<TaskCell, NoMemory>
+        ensures { IfOk result (λ cell. cell ≡ fresh_task locks own) }
+    {
+        let kept = vec![in alloc; None; locks as usize]?;
+        Ok(TaskCell {
+            own,
+            effective: own,
+            kept,
+            blocked: None,
+            state: TaskState::Running,
+            saved: TaskState::Running,
+            signal: false,
+        })
+    }
+
+    /// The priority that it was given, `normal_prio`.
+    pub fn own(&self) -> Prio
+        ensures { result ≡ self.now.own }
+    {
+        self.own
+    }
+
+    /// The priority that it runs with, `prio`: the best of its own and those of the waiters that it keeps.
+    pub fn effective(&self) -> Prio
+        ensures { result ≡ effective_of self.now }
+    {
+        self.effective
+    }
+
+    /// The lock that it waits for, `pi_blocked_on`.
+    pub fn blocked(&self) -> Option<LockId>
+        ensures { result ≡ option_map (λ at. at.0) self.now.blocked }
+    {
+        match self.blocked {
+            Some((lock, _)) => Some(lock),
+            None => None,
+        }
+    }
+
+    /// The lock that it waits for, and the priority that it is queued with.
+    pub fn blocked_at(&self) -> Option<(LockId, Prio)>
+        ensures { result ≡ self.now.blocked }
+    {
+        self.blocked
+    }
+
+    /// The priority that it is queued with.
+    pub fn key(&self) -> Prio
+        requires { IsSome self.now.blocked }
+        ensures { Some result ≡ option_map (λ at. at.1) self.now.blocked }
+    {
+        let Some((_, key)) = self.blocked else {
+            unreachable!()
+        };
+        key
+    }
+
+    /// What the task is up to.
+    pub fn state(&self) -> TaskState
+        ensures { result ≡ self.now.state }
+    {
+        self.state
+    }
+
+    /// The state to go back to after a wait for a spinning lock, `saved_state`.
+    pub fn saved(&self) -> TaskState
+        ensures { result ≡ self.now.saved }
+    {
+        self.saved
+    }
+
+    /// Whether a signal is pending.
+    pub fn signalled(&self) -> bool
+        ensures { result ≡ self.now.signal }
+    {
+        self.signal
+    }
+}
+
+// Priorities: its own, and the tops that it keeps. After each change the effective one is the best of
+// them, as `rt_mutex_adjust_prio` makes it.
+impl TaskCell {
+    /// The key that it keeps of a lock, where it keeps a top of it.
+    pub fn kept(&self, l: LockId) -> Option<Prio>
+        ensures { result ≡ kept_of self.now l }
+    {
+        match self.kept.get(l.0 as usize) {
+            Some(key) => *key,
+            None => None,
+        }
+    }
+
+    /// Whether it keeps a top of a lock.
+    pub fn keeps(&self, l: LockId) -> bool
+        ensures { result ≡ is_some (kept_of self.now l) }
+    {
+        self.kept(l).is_some()
+    }
+
+    /// The priority that it would run with if it kept this of a lock.
+    pub fn effective_with(&self, l: LockId, top: Option<Prio>) -> Prio
+        ensures { result ≡ effective_of (with_top (Some l) top self.now) }
+    {
+        least_with(self.own, self.kept.as_slice(), l, top)
+    }
+
+    /// Gives it another priority, `__setscheduler_prio`.
+    pub fn set_own(&mut self, p: Prio)
+        ensures { self.new ≡ record self.old { own = p } }
+    {
+        self.effective = least_of(p, self.kept.as_slice());
+        self.own = p;
+    }
+
+    /// Keeps the priority of a lock's top waiter, `rt_mutex_enqueue_pi`.
+    pub fn keep_top(&mut self, l: LockId, key: Prio)
+        requires { l.0 < length self.old.kept }
+        ensures { self.new ≡ with_top (Some l) (Some key) self.old }
+    {
+        self.effective = least_with(self.own, self.kept.as_slice(), l, Some(key));
+        self.kept[l.0 as usize] = Some(key);
+    }
+
+    /// Keeps nothing of a lock any more, `rt_mutex_dequeue_pi`.
+    pub fn drop_top(&mut self, l: LockId)
+        ensures { self.new ≡ with_top (Some l) None self.old }
+    {
+        if (l.0 as usize) < self.kept.len() {
+            self.effective = least_with(self.own, self.kept.as_slice(), l, None);
+            self.kept[l.0 as usize] = None;
+        }
+    }
+
+    /// Keeps the priority of a lock's top waiter, or nothing where nobody waits.
+    pub fn refresh(&mut self, l: LockId, top: Option<Prio>)
+        requires { l.0 < length self.old.kept }
+        ensures { self.new ≡ with_top (Some l) top self.old }
+    {
+        match top {
+            Some(key) => self.keep_top(l, key),
+            None => self.drop_top(l),
+        }
+    }
+}
+
+// Waits for locks.
+impl TaskCell {
+    /// Waits for a lock in this state, queued with its effective priority. Where that is the lock-wait
+    /// state, the state before is saved, `current_save_and_set_rtlock_wait_state`.
+    pub fn block(&mut self, l: LockId, rest: TaskState)
+        ensures { self.new ≡ blocked_on (Some l) rest self.old }
+    {
+        self.blocked = Some((l, self.effective));
+        if rest == TaskState::LockWait {
+            self.saved = self.state;
+        }
+        self.state = rest;
+    }
+
+    /// Is queued with its effective priority again, `waiter_update_prio`.
+    pub fn set_key(&mut self)
+        requires { IsSome self.old.blocked }
+        ensures { self.new ≡ record self.old { blocked = option_map (λ at. (at.0, effective_of self.old)) self.old.blocked } }
+    {
+        if let Some((lock, _)) = self.blocked {
+            self.blocked = Some((lock, self.effective));
+        }
+    }
+
+    /// Waits for no lock any more. Its states stay.
+    pub fn unblock(&mut self)
+        ensures { self.new ≡ record self.old { blocked = None } }
+    {
+        self.blocked = None;
+    }
+
+    /// Saves its state and goes into the lock-wait state, `current_save_and_set_rtlock_wait_state`.
+    pub fn save_for_lock(&mut self)
+        ensures { self.new ≡ record self.old { saved = self.old.state; state = TaskState.LockWait } }
+    {
+        self.saved = self.state;
+        self.state = TaskState::LockWait;
+    }
+
+    /// Goes to this state again after a wakeup that came to nothing. The saved state stays.
+    pub fn rest_again(&mut self, rest: TaskState)
+        ensures { self.new ≡ record self.old { state = rest } }
+    {
+        self.state = rest;
+    }
+
+    /// Goes on after a wait for a lock, `current_restore_rtlock_saved_state` where its kind spins.
+    pub fn restore(&mut self, spins: bool)
+        ensures { self.new ≡ restored spins self.old }
+    {
+        if spins {
+            self.state = self.saved;
+            self.saved = TaskState::Running;
+        } else {
+            self.state = TaskState::Running;
+        }
+    }
+
+    /// Goes on where it waited for a lock, which it doesn't any more.
+    pub fn leave_queue(&mut self, spins: bool)
+        ensures { self.new ≡ leave_queue spins self.old }
+    {
+        if self.blocked.is_some() {
+            self.restore(spins);
+            self.unblock();
+        }
+    }
+}
+
+// States and wakeups.
+impl TaskCell {
+    /// Goes into a state, `set_current_state`.
+    pub fn set_state(&mut self, s: TaskState)
+        ensures { self.new ≡ record self.old { state = s } }
+    {
+        self.state = s;
+    }
+
+    /// Ends a sleep, or one that is saved, `try_to_wake_up`.
+    pub fn wake(&mut self) -> Woken
+        ensures task { self.new ≡ woken_up self.old }
+        ensures woken { result ≡ (if sleeps self.old.state || sleeps self.old.saved then Woken.Woke else Woken.Missed) }
+    {
+        if sleeps(self.state) {
+            self.state = TaskState::Running;
+            Woken::Woke
+        } else if sleeps(self.saved) {
+            self.saved = TaskState::Running;
+            Woken::Woke
+        } else {
+            Woken::Missed
+        }
+    }
+
+    /// Sends it a signal, which ends an interruptible sleep, or one that is saved, `signal_wake_up`.
+    pub fn signal(&mut self) -> Woken
+        ensures task { self.new ≡ signalled self.old }
+        ensures woken { result ≡ (if is_interruptible self.old.state || is_interruptible self.old.saved then Woken.Woke else Woken.Missed) }
+    {
+        self.signal = true;
+        if is_interruptible(self.state) {
+            self.state = TaskState::Running;
+            Woken::Woke
+        } else if is_interruptible(self.saved) {
+            self.saved = TaskState::Running;
+            Woken::Woke
+        } else {
+            Woken::Missed
+        }
+    }
+
+    /// Takes the signal, which isn't pending any more, `clear_tsk_thread_flag`.
+    pub fn clear_signal(&mut self)
+        ensures { self.new ≡ record self.old { signal = false } }
+    {
+        self.signal = false;
+    }
+
+    /// The wakeup of a lock that is given up, `rt_mutex_wake_up_q`: for a spinning kind it ends that wait alone.
+    pub fn lock_wake(&mut self, spins: bool)
+        ensures { self.new ≡ lock_woken spins self.old }
+    {
+        if spins {
+            self.state = lock_state_woken(self.state);
+        } else {
+            let _ = self.wake();
+        }
+    }
+}
+
+// Whether it is one of the two ordinary sleeps.
+fn sleeps(state: TaskState) -> bool
+    ensures { result ≡ sleeps state }
+{
+    matches!(state, TaskState::Interruptible | TaskState::Uninterruptible)
+}
+
+// Whether a signal ends this sleep.
+fn is_interruptible(state: TaskState) -> bool
+    ensures { result ≡ is_interruptible state }
+{
+    matches!(state, TaskState::Interruptible)
+}
+
+// The state after the wait for a spinning lock has ended.
+fn lock_state_woken(state: TaskState) -> TaskState
+    ensures { result ≡ lock_state_woken state }
+{
+    match state {
+        TaskState::LockWait => TaskState::Running,
+        _ => state,
+    }
+}

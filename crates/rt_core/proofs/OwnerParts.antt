@@ -4,7 +4,7 @@ use Rattle.std.specs.Prelude.{slice_get}
 use Rattle.rt_base.specs.declared.id.LockId.{LockId}
 use Rattle.rt_model.specs.Parts.{OwnerPart}
 use Rattle.rt_model.specs.StateAfter.{update, at_lock}
-use Rattle.rt_core.specs.Cells.{OwnerCell}
+use Rattle.rt_locks.specs.OwnerCell.{OwnerCell}
 use Rattle.rt_core.specs.Shared.{parts_of}
 
 pub length-parts : (cells : List OwnerCell) → length (parts_of cells) ≡ length cells

@@ -1,4 +1,3 @@
-pub mod Cells
 pub mod Shared
 pub mod Thread
 pub mod Core
@@ -22,6 +21,7 @@ pub use Rattle.rt_model.specs.StateAfter
 pub use Rattle.rt_model.specs.Run
 pub use Rattle.rt_model.specs.Order
 pub use Rattle.rt_model.specs.laws
+pub use Rattle.rt_locks.specs.OwnerCell
 pub use Rattle.rt_events.specs.Words
 pub use Rattle.rt_events.specs.Entry
 pub use Rattle.rt_events.specs.WellFormed

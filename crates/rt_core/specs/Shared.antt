@@ -2,7 +2,7 @@
 use Rattle.std.specs.Prelude.{◌≡◌, ℕ, ◌<◌, ◌≤◌, List, length, map, All, IfSome}
 use Rattle.rt_model.specs.declared.reader_cell.ReaderCell.{ReaderCell}
 use Rattle.rt_model.specs.Parts.{OwnerPart, TaskPart}
-use Rattle.rt_core.specs.Cells.{OwnerCell}
+use Rattle.rt_locks.specs.OwnerCell.{OwnerCell}
 
 -- the owner parts of these cells
 abbrev pub parts_of : List OwnerCell → List OwnerPart
@@ -14,9 +14,9 @@ pub record IsAmong (tasks : ℕ) (cell : OwnerCell) : Type 0 where
   pub owner : IfSome cell.part.owner (λ t. t.0 < tasks)
 
 -- each lock is among these tasks and has a reader part, and each task keeps a top, or none, of each lock
-pub record IsShared (locks : List OwnerCell) (readers : List ReaderCell) (tasks : List TaskPart) : Type 0 where
-  pub few_locks : length locks ≤ 256
-  pub few_tasks : length tasks ≤ 64
-  pub locks : All (IsAmong (length tasks)) locks
-  pub readers : length readers ≡ length locks
-  pub tasks : All (λ (task : TaskPart). length task.kept ≡ length locks) tasks
+pub record IsShared (cells : List OwnerCell) (parts : List ReaderCell) (all : List TaskPart) : Type 0 where
+  pub few_locks : length cells ≤ 256
+  pub few_tasks : length all ≤ 64
+  pub locks : All (IsAmong (length all)) cells
+  pub readers : length parts ≡ length cells
+  pub kept : All (λ (task : TaskPart). length task.kept ≡ length cells) all

@@ -6,7 +6,7 @@ use Rattle.rt_model.specs.declared.hold.Hold.{Hold}
 use Rattle.rt_model.specs.laws.Shape.{IsThread}
 
 -- a thread knows a kind and a hold of each lock, and its calls are served
-pub record IsPrivate (kinds : List Kind) (calls : List Call) (answered : ℕ) (holds : List Hold) : Type 0 where
+pub record IsPrivate (kinds : List Kind) (calls : List Call) (answered : ℕ) (held : List Hold) : Type 0 where
   pub thread : IsThread calls answered (length kinds)
   pub few : length kinds ≤ 256
-  pub holds : length holds ≡ length kinds
+  pub holds : length held ≡ length kinds

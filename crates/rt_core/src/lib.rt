@@ -3,7 +3,6 @@
 #![tactic(auto)]
 
 mod effect;
-mod lock_cell;
 mod machine;
 #[cfg(test)]
 mod machine_tests;
@@ -13,14 +12,7 @@ mod playable;
 mod report;
 mod shared;
 mod start;
-mod task_cell;
 mod thread;
-mod waiters;
-mod woken;
 
-pub use lock_cell::LockCell;
 pub use machine::Core;
 pub use note::Note;
-pub use task_cell::TaskCell;
-pub use waiters::Waiters;
-pub use woken::Woken;

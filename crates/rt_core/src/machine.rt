@@ -18,18 +18,18 @@ ghost use Rattle.rt_core.specs.Report.{IsNoteWithin, note_of, call_note, blocked
 ghost use Rattle.rt_core.specs.Core.{Made};
 
 use crate::effect::make;
-use crate::lock_cell::LockCell;
 use crate::next::{boost_within, next_of};
 use crate::note::Note;
 use crate::playable::has_one_mutex;
 use crate::report::{write_lock_line, write_task_line};
 use crate::shared::Shared;
 use crate::start::threads;
-use crate::task_cell::TaskCell;
 use crate::thread::Thread;
 use rt_base::{Call, LockId, NoMemory, Prio, TaskId};
+use rt_locks::LockCell;
 use rt_model::{Event, Phase, Row};
 use rt_script::Script;
+use rt_tasks::TaskCell;
 use std::alloc::Global;
 use std::marker::Model;
 

@@ -5,12 +5,12 @@ ghost use Rattle.rt_model.specs.State.{start, shared, lock_in, readers_in, task_
 mod locks;
 mod tasks;
 
-use crate::lock_cell::LockCell;
 use crate::start::{lock_cells, task_cells};
-use crate::task_cell::TaskCell;
 use rt_base::{LockId, NoMemory, TaskId};
+use rt_locks::LockCell;
 use rt_model::ReaderCell;
 use rt_script::Script;
+use rt_tasks::TaskCell;
 use std::alloc::Global;
 use std::marker::Model;
 

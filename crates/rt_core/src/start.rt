@@ -4,11 +4,11 @@ ghost use Rattle.rt_base.specs.Script.{TaskLine};
 ghost use Rattle.rt_model.specs.Stage.{HasOneMutex};
 ghost use Rattle.rt_model.specs.State.{free_lock, fresh_task, fresh_thread, kinds_in};
 
-use crate::lock_cell::LockCell;
-use crate::task_cell::TaskCell;
 use crate::thread::Thread;
 use rt_base::{Kind, LockId, NoMemory, TaskId};
+use rt_locks::LockCell;
 use rt_script::Script;
+use rt_tasks::TaskCell;
 use std::alloc::Global;
 
 /// So many free locks, with room for so many tasks each.

@@ -4,11 +4,11 @@ ghost use Rattle.rt_base.specs.declared.kind.Kind.{Kind};
 ghost use Rattle.rt_model.specs.Rows.{can_take};
 ghost use Rattle.rt_model.specs.events.Acquire.{fast_event, mark_event, acquire_event, take_event};
 
-use crate::lock_cell::LockCell;
 use crate::next::event::{boost_of, on_lock};
-use crate::task_cell::TaskCell;
 use rt_base::{Kind, LockId, Reply, TaskId};
+use rt_locks::LockCell;
 use rt_model::{Event, EventKind};
+use rt_tasks::TaskCell;
 
 /// The first event of a call that acquires and doesn't try: it gets a lock with no owner and its bit
 /// clear at once, and else sets the bit.

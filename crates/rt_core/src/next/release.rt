@@ -2,11 +2,11 @@
 ghost use Rattle.std.specs.Prelude.{◌≡◌};
 ghost use Rattle.rt_model.specs.events.Release.{free_event, give_event, release_event};
 
-use crate::lock_cell::LockCell;
 use crate::next::event::{boost_of, on_lock};
-use crate::task_cell::TaskCell;
 use rt_base::{LockId, Reply, TaskId};
+use rt_locks::LockCell;
 use rt_model::{Event, EventKind};
+use rt_tasks::TaskCell;
 
 /// The first event of a call that releases: the fast release, or `rt_mutex_slowunlock` where the bit is set.
 pub fn release_event(t: TaskId, l: LockId, lock: &LockCell, task: &TaskCell) -> Event

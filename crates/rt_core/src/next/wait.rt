@@ -5,13 +5,13 @@ ghost use Rattle.rt_model.specs.Parts.{OwnerPart};
 ghost use Rattle.rt_model.specs.Rows.{top_key};
 ghost use Rattle.rt_model.specs.events.Wait.{owner_boost, wait_event, slow_event, again_event, awake_event, queued_event};
 
-use crate::lock_cell::LockCell;
 use crate::next::acquire::{can_take, take_event};
 use crate::next::event::{bare, boost_of, on_lock};
 use crate::shared::Shared;
-use crate::task_cell::TaskCell;
 use rt_base::{Kind, LockId, Prio, TaskId, TaskState};
+use rt_locks::LockCell;
 use rt_model::{Event, EventKind};
+use rt_tasks::TaskCell;
 
 /// The event of a call that has set the bit: it takes the lock, of this kind, where it may, and else is
 /// queued.

@@ -8,6 +8,9 @@ ghost use Rattle.rt_model.specs.steps.Lock.{queued, taken_by, given_up};
 
 use crate::shared::Shared;
 use rt_base::{LockId, TaskId};
+use rt_waiters::Steps;
+use std::marker::Brand;
+use std::sync::ledger::Blank;
 
 impl Shared {
     /// Makes a task the owner of a lock.
@@ -41,7 +44,7 @@ impl Shared {
         requires task { t.0 < length self.old.tasks }
         ensures { self.new ≡ record self.old { locks = update self.old.locks l.0 (taken_by t) } }
     {
-        let _ = self.locks[l.0 as usize].take(t);
+        let _ = self.locks[l.0 as usize].take(t, &mut Steps::<Brand>::new(Blank::new(1)));
     }
 
     /// Queues a task at a lock with its effective priority.
@@ -53,7 +56,7 @@ impl Shared {
         ensures { self.new ≡ record self.old { locks = update self.old.locks l.0 (queued t (effective_of (task_in self.old t))) } }
     {
         let key = self.tasks[t.0 as usize].effective();
-        let _ = self.locks[l.0 as usize].enqueue(t, key);
+        let _ = self.locks[l.0 as usize].enqueue(t, key, &mut Steps::<Brand>::new(Blank::new(1)));
     }
 
     /// Gives a lock up.

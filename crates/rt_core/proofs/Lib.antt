@@ -2,3 +2,4 @@ pub mod Prefixes
 pub mod PrefixesAll
 pub mod OwnerParts
 pub mod ReportShort
+pub mod SharedSteps

@@ -7,10 +7,11 @@ ghost use Rattle.rt_model.specs.StateAfter.{update};
 ghost use Rattle.rt_model.specs.steps.Lock.{queued, taken_by, given_up};
 
 use crate::shared::Shared;
-use rt_base::{LockId, TaskId};
+use rt_base::{LockId, Prio, TaskId};
+use rt_locks::LockCell;
 use rt_waiters::Steps;
 use std::marker::Brand;
-use std::sync::ledger::Blank;
+use std::sync::ledger::{Blank, Ledger};
 
 impl Shared {
     /// Makes a task the owner of a lock.
@@ -44,7 +45,7 @@ impl Shared {
         requires task { t.0 < length self.old.tasks }
         ensures { self.new ≡ record self.old { locks = update self.old.locks l.0 (taken_by t) } }
     {
-        let _ = self.locks[l.0 as usize].take(t, &mut Steps::<Brand>::new(Blank::new(1)));
+        take::<Brand>(&mut self.locks[l.0 as usize], t, Blank::new(1));
     }
 
     /// Queues a task at a lock with its effective priority.
@@ -56,7 +57,7 @@ impl Shared {
         ensures { self.new ≡ record self.old { locks = update self.old.locks l.0 (queued t (effective_of (task_in self.old t))) } }
     {
         let key = self.tasks[t.0 as usize].effective();
-        let _ = self.locks[l.0 as usize].enqueue(t, key, &mut Steps::<Brand>::new(Blank::new(1)));
+        enqueue::<Brand>(&mut self.locks[l.0 as usize], t, key, Blank::new(1));
     }
 
     /// Gives a lock up.
@@ -66,4 +67,27 @@ impl Shared {
     {
         let _ = self.locks[l.0 as usize].give();
     }
+}
+
+// Makes a task the owner of a lock that it takes. Nobody counts the comparisons.
+fn take<L: Ledger>(lock: &mut LockCell, t: TaskId, blank: Blank)
+    requires name { blank.name ≡ L.name }
+    requires parts { blank.parts ≡ L.parts }
+    requires some { 0 < L.parts }
+    ensures { lock.new ≡ record lock.old { part = taken_by t lock.old.part } }
+{
+    let _ = lock.take(t, &mut Steps::<L>::new(blank));
+}
+
+// Queues a task with this key. Nobody counts the comparisons.
+fn enqueue<L: Ledger>(lock: &mut LockCell, t: TaskId, key: Prio, blank: Blank)
+    requires name { blank.name ≡ L.name }
+    requires parts { blank.parts ≡ L.parts }
+    requires some { 0 < L.parts }
+    requires below { t.0 < lock.old.tasks }
+    requires absent { row_of t lock.old.part.rows ≡ None }
+    requires tickets { lock.old.part.ticket < 2 ^ 63 }
+    ensures { lock.new ≡ record lock.old { part = queued t key lock.old.part } }
+{
+    let _ = lock.enqueue(t, key, &mut Steps::<L>::new(blank));
 }

@@ -1,16 +1,17 @@
--- A path's links, and how they lie in arrays of 64 places.
+-- A path's links, and how they lie in arrays of as many places as there may be tasks.
 use Rattle.std.specs.Prelude.{◌≡◌, ℕ, ◌-◌, ◌≤◌, ◌==◌, ◌&&◌, Bool, List, ◌++◌, length, drop, replicate}
 use Rattle.std.specs.Cmp.Lexicographic.{pointwise}
+use Rattle.rt_base.specs.declared.limits.TheConstants.{MAX_TASKS}
 
--- 64 places: these numbers, and zeros behind them
+-- all places: these numbers, and zeros after them
 abbrev pub padded : List ℕ → List ℕ
-padded xs = xs ++ replicate (64 - length xs) 0
+padded xs = xs ++ replicate (MAX_TASKS - length xs) 0
 
--- of 64 places the first n are in use, and the others are zero
+-- of all places the first n are in use, and the others are zero
 pub record IsPadded (n : ℕ) (xs : List ℕ) : Type 0 where
-  pub within : n ≤ 64
-  pub places : length xs ≡ 64
-  pub zeros : drop n xs ≡ replicate (64 - n) 0
+  pub within : n ≤ MAX_TASKS
+  pub places : length xs ≡ MAX_TASKS
+  pub zeros : drop n xs ≡ replicate (MAX_TASKS - n) 0
 
 -- whether two paths have the same links, each a task's number and a lock's
 abbrev pub has_same_links : List (ℕ × ℕ) → List (ℕ × ℕ) → Bool

@@ -8,6 +8,7 @@ mod failing;
 mod fault;
 mod id;
 mod kind;
+pub mod limits;
 mod mem_sink;
 mod mem_source;
 #[cfg(test)]

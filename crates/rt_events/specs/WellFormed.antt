@@ -2,6 +2,7 @@
 -- is what the printed fields give, or nothing.
 use Rattle.std.specs.Prelude.{◌≡◌, ℕ, ◌<◌, ◌≤◌, ◌^◌, List, [], ◌∷◌, length, Option, Some, None, IsSomeAnd, IfSome, All}
 use Rattle.rt_base.specs.Script.{Script}
+use Rattle.rt_base.specs.declared.limits.TheConstants.{MAX_PRIO, MAX_TASKS}
 use Rattle.rt_base.specs.declared.id.LockId.{LockId}
 use Rattle.rt_base.specs.declared.id.TaskId.{TaskId}
 use Rattle.rt_model.specs.declared.event_kind.EventKind.{EventKind}
@@ -56,12 +57,12 @@ HasValue kinds.Busy value = value ≤ 1
 HasValue kinds.WOpen value = value ≤ 1
 HasValue kinds.Wake value = value ≤ 1
 HasValue kinds.State value = value ≤ 2
-HasValue kinds.SetPrio value = value ≤ 139
+HasValue kinds.SetPrio value = value ≤ MAX_PRIO
 HasValue _ value = value ≡ 0
 
 -- the path of a cycle
 abbrev pub HasPath : EventKind → Script → List (ℕ × ℕ) → Type 0
-HasPath kinds.Cycle script path = (1 ≤ length path) × (length path ≤ 64) × All (IsLinkIn script) path
+HasPath kinds.Cycle script path = (1 ≤ length path) × (length path ≤ MAX_TASKS) × All (IsLinkIn script) path
 HasPath _ script path = path ≡ []
 
 -- the entry is well formed for the script; a boost and an answer may be there or not with every kind
@@ -73,7 +74,7 @@ pub record IsWellFormed (script : Script) (n : Entry) : Type 0 where
   pub woken : HasWoken n.kind script n
   pub value : HasValue n.kind n.value
   pub path : HasPath n.kind script n.path
-  pub boost : IfSome n.boost (λ boost. IsTaskIn script boost.0 × (boost.1 ≤ 139))
+  pub boost : IfSome n.boost (λ boost. IsTaskIn script boost.0 × (boost.1 ≤ MAX_PRIO))
 
 -- all that the entry names is the script's
 pub record IsNamedIn (script : Script) (n : Entry) : Type 0 where

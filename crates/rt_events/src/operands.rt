@@ -8,6 +8,7 @@ ghost use Rattle.rt_events.specs.WellFormed.{IsTaskIn, IsLockIn, IsLinkIn, IsNam
 use crate::appending::{push_number, push_word};
 use crate::entry::Entry;
 use crate::words::{WORD_ROOM, push_lock, push_task, push_task_or_dash, state_numbered};
+use rt_base::limits::MAX_TASKS;
 use rt_base::{LockId, Path, TaskId};
 use rt_model::EventKind;
 use rt_script::Script;
@@ -16,7 +17,7 @@ use rt_script::Script;
 const LINK_ROOM: usize = 38;
 
 /// The most bytes of all that a kind tells.
-pub const OPERANDS_ROOM: usize = 64 * LINK_ROOM;
+pub const OPERANDS_ROOM: usize = MAX_TASKS * LINK_ROOM;
 
 /// Appends what the kind tells.
 pub fn push_operands(script: &Script, n: &Entry, out: &mut Vec<u8>)

@@ -3,6 +3,7 @@ ghost use Rattle.std.specs.Prelude.{◌≡◌, ◌↔◌, ◌≤◌, None, IsTru
 ghost use Rattle.rt_events.specs.WellFormed.{IsTaskIn, IsLockIn, IsLinkIn, first_lock, HasLock, HasOther, HasWoken, HasValue, HasPath, IsWellFormed};
 
 use crate::entry::Entry;
+use rt_base::limits::MAX_PRIO;
 use rt_base::{LockId, Path, Prio, TaskId};
 use rt_model::EventKind;
 use rt_script::Script;
@@ -116,7 +117,7 @@ fn has_value(kind: EventKind, value: u8) -> bool
     match kind {
         EventKind::Busy | EventKind::WOpen | EventKind::Wake => value <= 1,
         EventKind::State => value <= 2,
-        EventKind::SetPrio => value <= 139,
+        EventKind::SetPrio => value <= MAX_PRIO,
         _ => value == 0,
     }
 }
@@ -154,10 +155,10 @@ fn has_links(script: &Script, path: &Path) -> bool
 }
 
 fn has_boost(script: &Script, boost: Option<(TaskId, Prio)>) -> bool
-    ensures { IsTrue result ↔ IfSome boost (λ boost. IsTaskIn script.now boost.0 × (boost.1 ≤ 139)) }
+    ensures { IsTrue result ↔ IfSome boost (λ boost. IsTaskIn script.now boost.0 × (boost.1 ≤ MAX_PRIO)) }
 {
     match boost {
-        Some((t, prio)) => is_task_in(script, t) && prio.get() <= 139,
+        Some((t, prio)) => is_task_in(script, t) && prio.get() <= MAX_PRIO,
         None => true,
     }
 }

@@ -10,6 +10,7 @@ pub mod Calling
 pub mod events
 pub mod NextEvents
 pub mod PartsAfter
+pub mod Blocked
 -- what an event reads and writes
 pub mod Frame
 pub mod EffectLocal
@@ -17,5 +18,12 @@ pub mod Local
 -- what a lawful state says of a task
 pub mod Within
 pub mod Waiters
--- the laws, one a file
+pub mod Named
+-- the laws, one a file, and that a next event keeps all of them
 pub mod laws
+pub mod Lawful
+-- where a run starts, every state along it, and what is played
+pub mod Starts
+pub mod Prefixes
+pub mod Runs
+pub mod Lowest

@@ -38,6 +38,10 @@ pub if_some : {X : Type 0} (o : Option X) (P Q : X → Type 0) → ((x : X) → 
 if_some None P Q then is = tt
 if_some (Some x) P Q then is = then x refl is
 
+pub if_found : {X : Type 0} (o : Option X) (P : X → Type 0) → ((x : X) → o ≡ Some x → P x) → IfSome o P
+if_found None P holds = tt
+if_found (Some x) P holds = holds x refl
+
 -- ---- one element updated
 
 -- an update, as a write of what f makes of the element
@@ -125,6 +129,12 @@ map-take-more f (x ∷ xs) (suc i) d lt = ap (λ ys. f x ∷ ys) (map-take-more 
 pub map-map : {X Y Z : Type 0} (g : Y → Z) (f : X → Y) (xs : List X) → map g (map f xs) ≡ map (λ x. g (f x)) xs
 map-map g f [] = refl
 map-map g f (x ∷ xs) = ap (λ ys. g (f x) ∷ ys) (map-map g f xs)
+
+-- an element that is there, seen by f
+pub read-map : {X Y : Type 0} (f : X → Y) (xs : List X) (i : ℕ) (d : X) (e : Y) → i < length xs → unwrap_or (slice_get (map f xs) i) e ≡ f (unwrap_or (slice_get xs i) d)
+read-map f [] i d e lt = absurd (omega arith)
+read-map f (x ∷ xs) zero d e lt = refl
+read-map f (x ∷ xs) (suc i) d e lt = read-map f xs i d e (omega arith)
 
 -- what holds of each of two facts holds of both
 pub All-both : {X : Type 0} (P Q R : X → Type 0) → ((x : X) → P x → Q x → R x) → (xs : List X) → All P xs → All Q xs → All R xs

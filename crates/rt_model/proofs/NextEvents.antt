@@ -1,5 +1,5 @@
 -- How the next event of a task comes about.
-use Rattle.std.proofs.Common.{◌≡◌, ◌⊎◌, inl, inr, refl, subst, Option, Some, None, length}
+use Rattle.std.proofs.Common.{◌≡◌, ◌⊎◌, inl, inr, refl, ap, subst, Option, Some, None, length}
 use Rattle.rt_base.specs.declared.call.Call.{Call}
 use Rattle.rt_base.specs.declared.call.Call.TheVariants as calls
 use Rattle.rt_base.specs.declared.id.LockId.{LockId}
@@ -20,9 +20,9 @@ use Rattle.rt_model.specs.NextEvent.{first_event, answered_or, later_event, even
 use Rattle.rt_model.specs.laws.Phases.{PhasesLaw}
 use Rattle.rt_model.proofs.Calling.{IsIn, at_call, served_call}
 use Rattle.rt_model.proofs.events.Own.{IsOwn, not_held, was_held}
-use Rattle.rt_model.proofs.events.Acquire.{IsAcquire, IsTake, is_take, acquired}
-use Rattle.rt_model.proofs.events.Release.{IsRelease, released}
-use Rattle.rt_model.proofs.events.Wait.{IsWaiting, slowed, woken_up}
+use Rattle.rt_model.proofs.events.Acquire.{IsAcquire, IsTake, is_fast, is_mark, is_take, acquired}
+use Rattle.rt_model.proofs.events.Release.{IsRelease, is_free, is_give, released}
+use Rattle.rt_model.proofs.events.Wait.{IsWaiting, is_wait, is_again, slowed, woken_up}
 
 -- one constructor a family
 pub data IsNext (s : State) (t : TaskId) (e : Event) : Type 0 where
@@ -69,3 +69,14 @@ at_call_of s t e (Some call) staged phased at is =
 -- each next event is one of these
 pub choice : (s : State) (t : TaskId) (e : Event) → IsStaged s → PhasesLaw s → next_event s t ≡ Some e → IsNext s t e
 choice s t e staged phased is = at_call_of s t e (call_of (thread_part s t)) staged phased refl is
+
+-- and it is its task's
+pub task-IsNext : (s : State) (t : TaskId) (e : Event) → IsNext s t e → e.task ≡ t
+task-IsNext s t e (by_own call answer is) = ap (λ (x : Event). x.task) is.event
+task-IsNext s t e (by_acquire l (is_fast is)) = ap (λ (x : Event). x.task) is.event
+task-IsNext s t e (by_acquire l (is_mark is)) = ap (λ (x : Event). x.task) is.event
+task-IsNext s t e (by_acquire l (is_take is)) = ap (λ (x : Event). x.task) is.event
+task-IsNext s t e (by_wait l (is_wait is)) = ap (λ (x : Event). x.task) is.event
+task-IsNext s t e (by_wait l (is_again is)) = ap (λ (x : Event). x.task) is.event
+task-IsNext s t e (by_release l (is_free is)) = ap (λ (x : Event). x.task) is.event
+task-IsNext s t e (by_release l (is_give is)) = ap (λ (x : Event). x.task) is.event

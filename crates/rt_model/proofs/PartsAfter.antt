@@ -1,15 +1,17 @@
 -- The parts of the state that an event leaves, each read at its number.
 use Rattle.std.proofs.lemmas.Option.{unwrap_or-slice_get}
 use Rattle.std.proofs.lemmas.List.{get_or-set_same, get_or-set_other}
-use Rattle.std.proofs.Common.{◌≡◌, ℕ, zero, suc, ◌<◌, Bool, true, false, List, [], ◌∷◌, length, refl, sym, ap, ◌∙◌, subst, arith, Option, Some, None, IfSome, unwrap_or, get_or}
+use Rattle.std.proofs.Common.{◌≡◌, ◌⊎◌, inl, inr, ℕ, zero, suc, ◌<◌, Bool, true, false, List, [], ◌∷◌, length, refl, sym, ap, ◌∙◌, subst, arith, Option, Some, None, IfSome, unwrap_or, get_or}
 use Rattle.std.specs.Prelude.{slice_get, nat_eq, slice_set}
 use Rattle.rt_base.specs.declared.id.LockId.{LockId}
 use Rattle.rt_base.specs.declared.id.TaskId.{TaskId}
 use Rattle.rt_model.specs.declared.event.Event.{Event}
+use Rattle.rt_model.specs.declared.event_kind.EventKind.{EventKind}
+use Rattle.rt_model.specs.declared.event_kind.EventKind.TheVariants as kinds
 use Rattle.rt_model.specs.Parts.{OwnerPart, TaskPart, ThreadPart}
 use Rattle.rt_model.specs.State.{State, shared, free_lock, no_task, owner_part, task_part, thread_part}
-use Rattle.rt_model.specs.Effect.{Effect}
-use Rattle.rt_model.specs.Rules.{touched}
+use Rattle.rt_model.specs.Effect.{Around, Effect, around}
+use Rattle.rt_model.specs.Rules.{touched, effect}
 use Rattle.rt_model.specs.laws.Owners.{owned_by}
 use Rattle.rt_model.specs.StateAfter.{update, at_lock, at_task, effect_in, lock_left, thread_after, state_after}
 use Rattle.rt_model.proofs.Lists.{update-other, at_lock-none, length-at_task}
@@ -55,15 +57,20 @@ lock-left P s e l m named lt here there = at_each_lock (λ k. P k (owner_part (s
 pub locks-kept : (s : State) (e : Event) (m : LockId) → ((lock : OwnerPart) → (effect_in (shared s) (thread_part s e.task) e).lock lock ≡ lock) → owner_part (state_after s e) m ≡ owner_part s m
 locks-kept s e m same = ap (λ (xs : List OwnerPart). owner_part (record s { locks = xs }) m) (at_lock-none s.locks (touched e.kind e).lock _ same)
 
--- its own thread is as the effect and the answer say, and every other as it was
+-- its own thread is as the effect and the answer say
+pub thread-own : (s : State) (e x : Event) → e ≡ x → x.task.0 < length s.threads → thread_part (state_after s e) x.task ≡ thread_after (shared s) (thread_part s x.task) x
+thread-own s e x is lt =
+    ap (λ (y : Event). thread_part (state_after s y) x.task) is
+    ∙ read-update s.threads x.task.0 (λ old. thread_after (shared s) (thread_part s x.task) x) (thread_part (record s { threads = [] }) x.task) lt
+
+-- and every other as it was
+pub thread-other : (s : State) (e : Event) (u : TaskId) → nat_eq e.task.0 u.0 ≡ false → thread_part (state_after s e) u ≡ thread_part s u
+thread-other s e u ne = read-update_other s.threads e.task.0 u.0 (λ old. thread_after (shared s) (thread_part s e.task) e) (thread_part (record s { threads = [] }) u) ne
+
 pub thread-left : (P : TaskId → ThreadPart → Type 0) (s : State) (e : Event) (u : TaskId) → e.task.0 < length s.threads
     → P e.task (thread_after (shared s) (thread_part s e.task) e) → (nat_eq e.task.0 u.0 ≡ false → P u (thread_part s u)) → P u (thread_part (state_after s e) u)
 thread-left P s e u lt own others =
-    let th = thread_after (shared s) (thread_part s e.task) e in
-    let rest : ThreadPart = thread_part (record s { threads = [] }) u in
-    at_each_task (λ v. P v (thread_part (state_after s e) v)) e.task u
-    (subst (P e.task) (sym (read-update s.threads e.task.0 (λ old. th) rest lt)) own)
-    (λ ne. subst (P u) (sym (read-update_other s.threads e.task.0 u.0 (λ old. th) rest ne)) (others ne))
+    at_each_task (λ v. P v (thread_part (state_after s e) v)) e.task u (subst (P e.task) (sym (thread-own s e e refl lt)) own) (λ ne. subst (P u) (sym (thread-other s e u ne)) (others ne))
 
 -- what holds of a task in one slot after another
 pub slot-left : (P : TaskPart → Type 0) (xs : List TaskPart) (named : Option TaskId) (u : TaskId) (f : TaskPart → TaskPart) → IfSome named (λ v. v.0 < length xs)
@@ -79,7 +86,7 @@ slot-left P xs (Some v) u f lt here there = by_test (nat_eq v.0 u.0) refl
 
 -- ---- what each change keeps
 
-kept-at : {X : Type 0} (P : X → Type 0) (xs : List X) (i j : ℕ) (f : X → X) (d : X) → P (unwrap_or (slice_get xs j) d) → ((x : X) → P x → P (f x)) → P (unwrap_or (slice_get (update xs i f) j) d)
+pub kept-at : {X : Type 0} (P : X → Type 0) (xs : List X) (i j : ℕ) (f : X → X) (d : X) → P (unwrap_or (slice_get xs j) d) → ((x : X) → P x → P (f x)) → P (unwrap_or (slice_get (update xs i f) j) d)
 kept-at P [] i j f d was keeps = was
 kept-at P (x ∷ xs) zero zero f d was keeps = keeps x was
 kept-at P (x ∷ xs) zero (suc j) f d was keeps = was
@@ -98,7 +105,7 @@ lock-keeps P s e m was keeps = by_name (touched e.kind e).lock
     by_name (Some l) = kept-at P s.locks l.0 m.0 f free_lock was keeps
 
 -- of a task, slot by slot
-slot-keeps : (P : TaskPart → Type 0) (xs : List TaskPart) (named : Option TaskId) (u : TaskId) (f : TaskPart → TaskPart) → P (unwrap_or (slice_get xs u.0) no_task) → ((task : TaskPart) → P task → P (f task))
+pub slot-keeps : (P : TaskPart → Type 0) (xs : List TaskPart) (named : Option TaskId) (u : TaskId) (f : TaskPart → TaskPart) → P (unwrap_or (slice_get xs u.0) no_task) → ((task : TaskPart) → P task → P (f task))
     → P (unwrap_or (slice_get (at_task xs named f) u.0) no_task)
 slot-keeps P xs None u f was keeps = was
 slot-keeps P xs (Some v) u f was keeps = kept-at P xs v.0 u.0 f no_task was keeps
@@ -121,6 +128,29 @@ pub task-keeps : (P : TaskPart → Type 0) (s : State) (e : Event) (u : TaskId) 
     → ((task : TaskPart) → P task → P ((effect_in (shared s) (thread_part s e.task) e).own (lock_left (shared s) (thread_part s e.task) e) task))
     → OthersKeep P (effect_in (shared s) (thread_part s e.task) e) (lock_left (shared s) (thread_part s e.task) e) → P (task_part (state_after s e) u)
 task-keeps P s e u was own keep = behind-own P s e u keep (slot-keeps P s.tasks (touched e.kind e).own u _ was own)
+
+-- the slot of its own task has that task, or changes nothing
+own-slot : (kind : EventKind) (e : Event) (th : ThreadPart) (found : Around) (lock : OwnerPart) → ((touched kind e).own ≡ Some e.task) ⊎ ((task : TaskPart) → (effect kind e th found).own lock task ≡ task)
+own-slot kinds.Take e th found lock = inl refl
+own-slot kinds.Wait e th found lock = inl refl
+own-slot kinds.Again e th found lock = inl refl
+own-slot kinds.Give e th found lock = inl refl
+own-slot _ e th found lock = inr (λ task. refl)
+
+-- so what the other slots keep is kept of every other task
+pub other-keeps : (P : TaskPart → Type 0) (s : State) (e : Event) (u : TaskId) → nat_eq e.task.0 u.0 ≡ false → P (task_part s u)
+    → OthersKeep P (effect_in (shared s) (thread_part s e.task) e) (lock_left (shared s) (thread_part s e.task) e) → P (task_part (state_after s e) u)
+other-keeps P s e u ne was keep = behind-own P s e u keep (by_slot (own-slot e.kind e (thread_part s e.task) (around (shared s) (touched e.kind e)) (lock_left (shared s) (thread_part s e.task) e)))
+  where
+    f : TaskPart → TaskPart
+    f = (effect_in (shared s) (thread_part s e.task) e).own (lock_left (shared s) (thread_part s e.task) e)
+
+    Read : Option TaskId → Type 0
+    Read named = P (unwrap_or (slice_get (at_task s.tasks named f) u.0) no_task)
+
+    by_slot : ((touched e.kind e).own ≡ Some e.task) ⊎ ((task : TaskPart) → f task ≡ task) → Read (touched e.kind e).own
+    by_slot (inl named) = subst Read (sym named) (subst P (sym (read-update_other s.tasks e.task.0 u.0 f no_task ne)) was)
+    by_slot (inr same) = slot-keeps P s.tasks (touched e.kind e).own u f was (λ task is. subst P (sym (same task)) is)
 
 -- its own task is as the effect says, and every other as it was
 pub own-left : (P : TaskId → TaskPart → Type 0) (s : State) (e : Event) (t u : TaskId) → (touched e.kind e).own ≡ Some t → t.0 < length s.tasks

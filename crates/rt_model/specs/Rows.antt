@@ -1,6 +1,7 @@
 -- The queue of a lock: who is its top waiter, who may take it, and rows that come and go.
 use Rattle.std.specs.Prelude.{ℕ, Bool, ◌&&◌, ◌||◌, not, List, [], ◌∷◌, filter, find, Option, Some, None, option_map, unwrap_or, is_some, nat_eq, nat_lt, if◌then◌else◌}
 use Rattle.rt_base.specs.Kind.{spins}
+use Rattle.rt_base.specs.declared.limits.TheConstants.{MAX_REALTIME}
 use Rattle.rt_base.specs.declared.id.TaskId.{TaskId}
 use Rattle.rt_base.specs.declared.kind.Kind.{Kind}
 use Rattle.rt_model.specs.declared.reason.Reason.{Reason}
@@ -71,7 +72,7 @@ abbrev pub reason_before : TaskId → ℕ → Kind → Row → Option Reason
 reason_before t key kind top =
     if is_of t top then Some reasons.Top
     else if nat_lt key top.key then Some reasons.Better
-    else if nat_eq key top.key && nat_lt 99 key && spins kind then Some reasons.Equal
+    else if nat_eq key top.key && nat_lt MAX_REALTIME key && spins kind then Some reasons.Equal
     else None
 
 -- why it may take one with this top waiter, or none

@@ -30,22 +30,22 @@ use Rattle.rt_model.proofs.CellStepLemmas.{leave_queue-like, blocked_on-like, lo
 use Rattle.rt_model.proofs.Within.{HoldsFit}
 use Rattle.std.proofs.lemmas.List.{length-map}
 
-abbrev OwnerIn : ℕ → OwnerPart → Type 0
+abbrev pub OwnerIn : ℕ → OwnerPart → Type 0
 OwnerIn n lock = IfSome lock.owner (λ t. t.0 < n)
 
-abbrev RowsIn : ℕ → OwnerPart → Type 0
+abbrev pub RowsIn : ℕ → OwnerPart → Type 0
 RowsIn n lock = All (λ (row : Row). row.who < n) lock.rows
 
-abbrev KeptFits : ℕ → TaskPart → Type 0
+abbrev pub KeptFits : ℕ → TaskPart → Type 0
 KeptFits n task = length task.kept ≡ n
 
-abbrev KindsFit : ℕ → ThreadPart → Type 0
+abbrev pub KindsFit : ℕ → ThreadPart → Type 0
 KindsFit n thread = length thread.kinds ≡ n
 
-abbrev AreServed : ℕ → ThreadPart → Type 0
+abbrev pub AreServed : ℕ → ThreadPart → Type 0
 AreServed n thread = All (IsServed n) thread.calls
 
-abbrev AreMutexes : ThreadPart → Type 0
+abbrev pub AreMutexes : ThreadPart → Type 0
 AreMutexes thread = All (λ (kind : Kind). kind ≡ Mutex) thread.kinds
 
 -- ---- a lock
@@ -184,8 +184,8 @@ IsOf-after script s e lt is = record {
   calls = map-write (λ (thread : ThreadPart). thread.calls) s.threads e.task.0 _ _ (thread-keeps (shared s) (thread_part s e.task) e).calls ∙ is.calls;
 }
 
-threads-of : (script : Script) (s : State) → IsOf script s → length s.threads ≡ length script.tasks
-threads-of script s is = sym (length-map s.threads (λ (thread : ThreadPart). thread.calls)) ∙ (ap length is.calls ∙ length-map script.tasks _)
+pub IsOf-threads : (script : Script) (s : State) → IsOf script s → length s.threads ≡ length script.tasks
+IsOf-threads script s is = sym (length-map s.threads (λ (thread : ThreadPart). thread.calls)) ∙ (ap length is.calls ∙ length-map script.tasks _)
 
 -- two states of one script have one size
 pub SameSize-of : (script : Script) (s other : State) → IsOf script s → IsOf script other → SameSize s other
@@ -193,5 +193,5 @@ SameSize-of script s other is is_other = record {
   locks = is_other.locks ∙ sym is.locks;
   readers = is_other.readers ∙ sym is.readers;
   tasks = is_other.tasks ∙ sym is.tasks;
-  threads = threads-of script other is_other ∙ sym (threads-of script s is);
+  threads = IsOf-threads script other is_other ∙ sym (IsOf-threads script s is);
 }

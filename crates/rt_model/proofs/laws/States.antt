@@ -28,7 +28,7 @@ use Rattle.rt_model.proofs.Lists.{All-read}
 use Rattle.rt_model.proofs.PartsAfter.{task-keeps}
 
 -- no lock spins, as any thread knows it
-kinds_known : (s : State) (t : TaskId) → IsStaged s → All (λ (kind : Kind). kind ≡ Mutex) (thread_part s t).kinds
+pub kinds_known : (s : State) (t : TaskId) → IsStaged s → All (λ (kind : Kind). kind ≡ Mutex) (thread_part s t).kinds
 kinds_known s t staged = All-read (λ (thread : ThreadPart). All (λ (kind : Kind). kind ≡ Mutex) thread.kinds) s.threads t.0 _ staged.mutexes (All-nil (λ (kind : Kind). kind ≡ Mutex))
 
 pub spins-known : (s : State) (t : TaskId) (l : Option LockId) → IsStaged s → spins (kind_named (thread_part s t) l) ≡ false

@@ -2,6 +2,7 @@
 use Rattle.std.specs.Prelude.{◌≡◌, ℕ, ◌<◌, ◌≤◌, List, length, map, All, IfSome}
 use Rattle.rt_base.specs.Script.{Script, TaskLine}
 use Rattle.rt_base.specs.declared.call.Call.{Call}
+use Rattle.rt_base.specs.declared.limits.TheConstants.{MAX_TASKS, MAX_LOCKS, MAX_CALLS}
 use Rattle.rt_model.specs.declared.event.Event.{Event}
 use Rattle.rt_model.specs.declared.row.Row.{Row}
 use Rattle.rt_model.specs.Parts.{OwnerPart, TaskPart, ThreadPart}
@@ -11,13 +12,13 @@ use Rattle.rt_model.specs.Stage.{IsServed}
 -- a thread counts no more answers than it has calls, and each call is served
 pub record IsThread (calls : List Call) (answered locks : ℕ) : Type 0 where
   pub within : answered ≤ length calls
-  pub few : length calls ≤ 16384
+  pub few : length calls ≤ MAX_CALLS
   pub served : All (IsServed locks) calls
 
 -- the lists of the state fit together
 pub record IsShaped (s : State) : Type 0 where
-  pub few_tasks : length s.threads ≤ 64
-  pub few_locks : length s.locks ≤ 256
+  pub few_tasks : length s.threads ≤ MAX_TASKS
+  pub few_locks : length s.locks ≤ MAX_LOCKS
   pub readers : length s.readers ≡ length s.locks
   pub tasks : length s.tasks ≡ length s.threads
   pub kept : All (λ (task : TaskPart). length task.kept ≡ length s.locks) s.tasks

@@ -1,0 +1,34 @@
+-- A next event of a lawful state leaves a lawful state.
+use Rattle.std.proofs.Common.{ℕ, suc, ◌<◌, length}
+use Rattle.rt_base.specs.declared.id.TaskId.{TaskId}
+use Rattle.rt_model.specs.declared.event.Event.{Event}
+use Rattle.rt_model.specs.State.{State}
+use Rattle.rt_model.specs.StateAfter.{state_after}
+use Rattle.rt_model.specs.laws.Lawful.{IsLawful}
+use Rattle.rt_model.proofs.NextEvents.{IsNext}
+use Rattle.rt_model.proofs.Named.{within}
+use Rattle.rt_model.proofs.laws.Shape.{IsShaped-after, IsStaged-after}
+use Rattle.rt_model.proofs.laws.Phases.{PhasesLaw-next}
+use Rattle.rt_model.proofs.laws.Rows.{RowsLaw-next}
+use Rattle.rt_model.proofs.laws.KeptTops.{KeptTopsLaw-next}
+use Rattle.rt_model.proofs.laws.Queued.{QueuedLaw-next}
+use Rattle.rt_model.proofs.laws.Owners.{OwnersLaw-next}
+use Rattle.rt_model.proofs.laws.States.{StatesLaw-after}
+use Rattle.rt_model.proofs.laws.AwakeTop.{AwakeTopLaw-next}
+use Rattle.rt_model.proofs.laws.Keys.{KeysLaw-next}
+
+pub IsLawful-next : (s : State) (made : ℕ) (t : TaskId) (e : Event) → IsLawful s made → IsNext s t e → IsLawful (state_after s e) (suc made)
+IsLawful-next s made t e lawful next =
+    let there = (within s t e lawful.shape next).task in
+    record {
+      shape = IsShaped-after s e there lawful.shape;
+      stage = IsStaged-after s e there lawful.stage;
+      phases = PhasesLaw-next s made t e lawful next;
+      rows = RowsLaw-next s made t e lawful next;
+      kept = KeptTopsLaw-next s made t e lawful next;
+      queued = QueuedLaw-next s made t e lawful next;
+      owners = OwnersLaw-next s made t e lawful next;
+      states = StatesLaw-after s e lawful.stage lawful.states;
+      awake = AwakeTopLaw-next s made t e lawful next;
+      keys = KeysLaw-next s made t e lawful next;
+    }

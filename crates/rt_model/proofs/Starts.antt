@@ -1,0 +1,169 @@
+-- The start state of a script is lawful.
+use Rattle.std.proofs.lemmas.List.{length-map, length-replicate}
+use Rattle.std.proofs.lemmas.List.Folds.{fold-map}
+use Rattle.std.proofs.Common.{◌≡◌, ◌≢◌, inl, inr, ℕ, ◌+◌, ◌<◌, ◌≤◌, false, cond, List, [], length, refl, sym, ap, ◌∙◌, subst, arith, Option, None, All, IfSome}
+use Rattle.std.specs.Prelude.{option_map}
+use Rattle.std.proofs.lemmas.List.Elements.{All-nil, All-map, All-replicate}
+use Rattle.std.proofs.lemmas.List.Sums.{get_or-le-sum_by}
+use Rattle.std.proofs.lemmas.Option.{slice_get_cases}
+use Rattle.rt_base.specs.Script.{Script, TaskLine, LockLine, all_calls, IsScript, IsTaskOf, IsCallOf}
+use Rattle.rt_base.specs.declared.call.Call.{Call}
+use Rattle.rt_base.specs.declared.call.Call.TheVariants as calls
+use Rattle.rt_base.specs.declared.id.Cpu.{Cpu}
+use Rattle.rt_base.specs.declared.id.LockId.{LockId}
+use Rattle.rt_base.specs.declared.id.TaskId.{TaskId}
+use Rattle.rt_base.specs.declared.kind.Kind.{Kind}
+use Rattle.rt_base.specs.declared.kind.Kind.TheVariants.{Mutex}
+use Rattle.rt_base.specs.declared.state.TaskState.TheVariants.{Running, LockWait}
+use Rattle.rt_model.specs.declared.hold.Hold.{Hold}
+use Rattle.rt_model.specs.declared.phase.Phase.{Phase}
+use Rattle.rt_model.specs.declared.phase.Phase.TheVariants as phases
+use Rattle.rt_model.specs.declared.row.Row.{Row}
+use Rattle.rt_model.specs.Parts.{OwnerPart, TaskPart, ThreadPart, effective_of, call_of, hold_of}
+use Rattle.rt_model.specs.Rows.{top_waiter, top_key, task_of, queued_key}
+use Rattle.rt_model.specs.State.{start, free_lock, fresh_task, fresh_thread, no_readers, kinds_in, owner_part, task_part, thread_part}
+use Rattle.rt_model.specs.Stage.{IsServed, IsStaged, IsMutexCall, HasOneMutex, IsPhaseOf}
+use Rattle.rt_model.specs.laws.Shape.{IsShaped, IsOf}
+use Rattle.rt_model.specs.laws.Rows.{IsQueue, RowsLaw, key_at}
+use Rattle.rt_model.specs.laws.KeptTops.{kept_of}
+use Rattle.rt_model.specs.laws.Owners.{owned_by}
+use Rattle.rt_model.specs.laws.Queued.{QueuedLaw, present_lock, awaited_in, asked_in}
+use Rattle.rt_model.specs.laws.Lawful.{IsLawful}
+use Rattle.rt_model.proofs.Lists.{All-read, map-map, All-both, All-made, read-replicate}
+use Rattle.rt_model.proofs.Within.{HoldsFit}
+use Rattle.rt_model.proofs.laws.Shape.{OwnerIn, RowsIn, KeptFits, KindsFit, AreServed, AreMutexes}
+
+-- ---- the script
+
+-- a mutex that a call of a script names is there
+lock_within : (script : Script) (l : LockId) → IsCallOf script (calls.Lock l) → l.0 < length script.locks
+lock_within script l is = elim (slice_get_cases script.locks l.0).1 [ inl here ↦ here.1 | inr past ↦ absurd (rw past.1 at is) ]
+
+-- a call of a script that only takes and releases mutexes is served
+served_in : (script : Script) (call : Call) → IsCallOf script call → IsMutexCall call → IsServed (length script.locks) call
+served_in script (calls.Lock l) is mutex = lock_within script l is
+served_in script (calls.Unlock l) is mutex = lock_within script l is
+served_in script _ is mutex = absurd mutex
+
+-- the calls of each task are served
+pub served_calls : (script : Script) → IsScript script → HasOneMutex script → All (λ (line : TaskLine). All (IsServed (length script.locks)) line.calls) script.tasks
+served_calls script valid mutexes =
+    All-both (IsTaskOf script) (λ (line : TaskLine). All IsMutexCall line.calls) (λ (line : TaskLine). All (IsServed (length script.locks)) line.calls)
+    (λ line task all. All-both (IsCallOf script) IsMutexCall (IsServed (length script.locks)) (served_in script) line.calls task.calls all) script.tasks valid.each_task mutexes.calls
+
+-- a task makes no more calls than all tasks together
+pub calls_within : (script : Script) → All (λ (line : TaskLine). length line.calls ≤ all_calls script) script.tasks
+calls_within script = λ i d lt. rw (fold-map ◌+◌ (λ (line : TaskLine). length line.calls) 0 script.tasks) (get_or-le-sum_by (λ (line : TaskLine). length line.calls) script.tasks i d lt)
+
+-- ---- shape and stage
+
+-- the start state is one of the script
+pub IsOf-start : (script : Script) → IsOf script (start script)
+IsOf-start script =
+    let fresh : TaskLine → ThreadPart = λ line. fresh_thread (kinds_in script) line.calls line.cpu in
+    record {
+      locks = length-replicate (length script.locks) free_lock;
+      readers = length-replicate (length script.locks) no_readers;
+      tasks = length-map script.tasks (λ (line : TaskLine). fresh_task (length script.locks) line.own);
+      kinds = All-made (λ (thread : ThreadPart). thread.kinds ≡ kinds_in script) fresh (λ line. refl) script.tasks;
+      calls = map-map (λ (thread : ThreadPart). thread.calls) fresh script.tasks;
+    }
+
+-- its lists fit together
+pub IsShaped-start : (script : Script) → IsScript script → IsShaped (start script)
+IsShaped-start script valid =
+    let n = length script.locks in
+    let fresh : TaskLine → ThreadPart = λ line. fresh_thread (kinds_in script) line.calls line.cpu in
+    let locks : length (start script).locks ≡ n = length-replicate n free_lock in
+    let kinds : length (kinds_in script) ≡ n = length-map script.locks (λ (line : LockLine). line.kind) in
+    let threads : length (start script).threads ≡ length script.tasks = length-map script.tasks fresh in
+    record {
+      few_tasks = rw threads valid.tasks;
+      few_locks = rw locks valid.locks;
+      readers = length-replicate n no_readers ∙ sym locks;
+      tasks = length-map script.tasks (λ (line : TaskLine). fresh_task n line.own) ∙ sym threads;
+      kept = rw locks (All-made (KeptFits n) (λ (line : TaskLine). fresh_task n line.own) (λ line. length-replicate n None) script.tasks);
+      kinds = rw locks (All-made (KindsFit n) fresh (λ line. kinds) script.tasks);
+      holds = rw locks (All-made (HoldsFit n) fresh (λ line. length-replicate (length (kinds_in script)) _ ∙ kinds) script.tasks);
+      owners = All-replicate (OwnerIn (length (start script).threads)) n free_lock tt;
+      rows = All-replicate (RowsIn (length (start script).threads)) n free_lock (All-nil (λ (row : Row). row.who < length (start script).threads));
+    }
+
+-- it goes as far as the stage goes
+pub IsStaged-start : (script : Script) → IsScript script → HasOneMutex script → IsStaged (start script)
+IsStaged-start script valid mutexes =
+    let n = length script.locks in
+    let fresh : TaskLine → ThreadPart = λ line. fresh_thread (kinds_in script) line.calls line.cpu in
+    let locks : length (start script).locks ≡ n = length-replicate n free_lock in
+    record {
+      one_lock = rw locks mutexes.one;
+      mutexes = All-made AreMutexes fresh (λ line. All-map (λ (kind : Kind). kind ≡ Mutex) (λ (lock : LockLine). lock.kind) script.locks mutexes.locks) script.tasks;
+      served = rw locks (All-map (AreServed n) fresh script.tasks (served_calls script valid mutexes));
+    }
+
+-- ---- the laws of the start state
+
+module _ (script : Script) where
+  -- each lock is free
+  lock-start : (l : LockId) → owner_part (start script) l ≡ free_lock
+  lock-start l = read-replicate (length script.locks) l.0 free_lock
+
+  pub owner-start : (l : LockId) → (owner_part (start script) l).owner ≡ None
+  owner-start l = ap (λ (lock : OwnerPart). lock.owner) (lock-start l)
+
+  rows-start : (l : LockId) → (owner_part (start script) l).rows ≡ []
+  rows-start l = ap (λ (lock : OwnerPart). lock.rows) (lock-start l)
+
+  -- what holds of each fresh task or thread, and where there is none, holds of each
+  each_task : (P : TaskPart → Type 0) (t : TaskId) → ((n own : ℕ) → P (fresh_task n own)) → P (task_part (start script) t)
+  each_task P t holds = All-read P (start script).tasks t.0 _ (All-made P (λ (line : TaskLine). fresh_task (length script.locks) line.own) (λ line. holds (length script.locks) line.own) script.tasks) (holds 0 0)
+
+  each_thread : (P : ThreadPart → Type 0) (t : TaskId) → ((kinds : List Kind) (cs : List Call) (cpu : Cpu) → P (fresh_thread kinds cs cpu)) → P (thread_part (start script) t)
+  each_thread P t holds =
+      All-read P (start script).threads t.0 _ (All-made P (λ (line : TaskLine). fresh_thread (kinds_in script) line.calls line.cpu) (λ line. holds (kinds_in script) line.calls line.cpu) script.tasks) (holds [] [] (record { 0 = 0 }))
+
+  blocked-start : (t : TaskId) → (task_part (start script) t).blocked ≡ None
+  blocked-start t = each_task (λ task. task.blocked ≡ None) t (λ n own. refl)
+
+  phase-start : (t : TaskId) → (thread_part (start script) t).phase ≡ phases.Start
+  phase-start t = each_thread (λ thread. thread.phase ≡ phases.Start) t (λ kinds cs cpu. refl)
+
+  unheld-start : (l : LockId) (t : TaskId) → (hold_of (thread_part (start script) t) l).owns ≡ false
+  unheld-start l t =
+      each_thread (λ thread. (hold_of thread l).owns ≡ false) t
+      (λ kinds cs cpu. ap (λ (hold : Hold). hold.owns) (read-replicate (length kinds) l.0 (record { owns = false; reads = 0 })))
+
+  RowsLaw-start : RowsLaw (start script) 0
+  RowsLaw-start = record {
+    queue = λ l. subst IsQueue (sym (lock-start l)) (record { clear = λ is. refl; order = λ i j d lt long. absurd (omega arith); tickets = All-nil (λ (row : Row). row.ticket < 0) });
+    tickets = λ l. subst (λ (lock : OwnerPart). lock.ticket ≤ 0) (sym (lock-start l)) (omega arith);
+    rows = λ l t. ap (λ (rows : List Row). queued_key t rows) (rows-start l) ∙ sym (ap (λ (b : Option (LockId × ℕ)). key_at b l) (blocked-start t));
+  }
+
+  QueuedLaw-start : QueuedLaw (start script)
+  QueuedLaw-start =
+      let lock : TaskId → Option LockId = λ t. present_lock (thread_part (start script) t) in
+      let Free : TaskId → LockId → Type 0 = λ t l. owned_by (owner_part (start script) l).owner t ≡ false in
+      record {
+        blocked = λ t. ap (option_map (λ (at : LockId × ℕ). at.0)) (blocked-start t) ∙ sym (ap (λ (phase : Phase). awaited_in phase (lock t)) (phase-start t));
+        waiting = λ t. subst (λ (b : Option (LockId × ℕ)). IfSome b (λ at. Free t at.0)) (sym (blocked-start t)) tt;
+        asking = λ t. subst (λ (phase : Phase). IfSome (asked_in phase (lock t)) (Free t)) (sym (phase-start t)) tt;
+      }
+
+-- the start state is lawful
+pub IsLawful-start : (script : Script) → IsScript script → HasOneMutex script → IsLawful (start script) 0
+IsLawful-start script valid mutexes = record {
+  shape = IsShaped-start script valid;
+  stage = IsStaged-start script valid mutexes;
+  phases = λ t. each_thread script (λ thread. IsPhaseOf thread.phase (call_of thread)) t (λ kinds cs cpu. tt);
+  rows = RowsLaw-start script;
+  kept = λ l t. each_task script (λ task. kept_of task l ≡ None) t (λ n own. read-replicate n l.0 None) ∙ sym (ap (λ (lock : OwnerPart). cond (owned_by lock.owner t) (top_key lock.rows) None) (lock-start script l));
+  queued = QueuedLaw-start script;
+  owners = λ l t. unheld-start script l t ∙ sym (ap (λ (o : Option TaskId). owned_by o t) (owner-start script l));
+  states = record {
+    state = λ t. each_task script (λ task. task.state ≢ LockWait) t (λ n own is. cc);
+    saved = λ t. each_task script (λ task. task.saved ≡ Running) t (λ n own. refl);
+  };
+  awake = λ l free. subst (λ (rows : List Row). IfSome (top_waiter rows) (λ row. (task_part (start script) (task_of row)).state ≡ Running)) (sym (rows-start script l)) tt;
+  keys = λ t apart. subst (λ (b : Option (LockId × ℕ)). IfSome b (λ at. at.1 ≡ effective_of (task_part (start script) t))) (sym (blocked-start script t)) tt;
+}

@@ -1,0 +1,212 @@
+-- A next event keeps the awake-top law.
+use Rattle.std.proofs.Common.{◌≡◌, ◌≢◌, ℕ, ◌<◌, Bool, true, false, cond, List, length, refl, sym, ap, ◌∙◌, subst, arith, Option, Some, None, IfSome}
+use Rattle.std.specs.Prelude.{nat_eq, is_some, option_map, slice_get, unwrap_or}
+use Rattle.std.proofs.lemmas.Bool.{cond_both}
+use Rattle.std.proofs.lemmas.Bool.Decides.{nat_tests}
+use Rattle.rt_base.specs.Kind.{spins}
+use Rattle.rt_base.specs.declared.call.Call.TheVariants as calls
+use Rattle.rt_base.specs.declared.id.LockId.{LockId}
+use Rattle.rt_base.specs.declared.id.TaskId.{TaskId}
+use Rattle.rt_base.specs.declared.state.TaskState.{TaskState}
+use Rattle.rt_base.specs.declared.state.TaskState.TheVariants as states
+use Rattle.rt_model.specs.declared.event.Event.{Event}
+use Rattle.rt_model.specs.declared.event_kind.EventKind.{EventKind}
+use Rattle.rt_model.specs.declared.event_kind.EventKind.TheVariants as kinds
+use Rattle.rt_model.specs.declared.row.Row.{Row}
+use Rattle.rt_model.specs.Parts.{OwnerPart, TaskPart, ThreadPart, effective_of, kind_of, kind_named}
+use Rattle.rt_model.specs.Rows.{top_waiter, top_key, top_task, task_of, is_of, insert_row}
+use Rattle.rt_model.specs.State.{State, shared, no_task, owner_part, task_part, thread_part}
+use Rattle.rt_model.specs.steps.Task.{with_top, restored, leave_queue, sleeps, woken_up, lock_state_woken, lock_woken}
+use Rattle.rt_model.specs.Effect.{Around, around}
+use Rattle.rt_model.specs.Rules.{touched, effect}
+use Rattle.rt_model.specs.StateAfter.{at_task, lock_left, state_after}
+use Rattle.rt_model.specs.laws.AwakeTop.{AwakeTopLaw}
+use Rattle.rt_model.specs.laws.Lawful.{IsLawful}
+use Rattle.rt_model.specs.laws.Owners.{owned_by}
+use Rattle.rt_model.proofs.Lists.{if_some, if_found, length-at_task}
+use Rattle.rt_model.proofs.Named.{top_within}
+use Rattle.rt_model.proofs.NextEvents.{IsNext, by_own, by_acquire, by_wait, by_release}
+use Rattle.rt_model.proofs.events.Acquire.{is_fast, is_mark, is_take}
+use Rattle.rt_model.proofs.events.Wait.{IsWait, IsAgain, is_wait, is_again}
+use Rattle.rt_model.proofs.events.Release.{IsGive, is_free, is_give}
+use Rattle.rt_model.proofs.Numbers.{number_itself, at_each_lock}
+use Rattle.rt_model.proofs.PartsAfter.{OthersKeep, lock-kept, lock-made, task-keeps, other-keeps, slot-keeps, slot-left}
+use Rattle.rt_model.proofs.Queues.{none_of, top-at, not_top, queued_after}
+use Rattle.rt_model.proofs.Waiters.{slow-unqueued, wait-elsewhere}
+use Rattle.rt_model.proofs.Within.{rows_within}
+use Rattle.rt_model.proofs.laws.States.{spins-known}
+
+-- a row that isn't the task's is another's
+others_row : (t : TaskId) (row : Row) → is_of t row ≡ false → nat_eq t.0 row.who ≡ false
+others_row t row is = grind (arith, nat_tests)
+
+-- ---- a task that runs
+
+record IsAwake (task : TaskPart) : Type 0 where
+  state : task.state ≡ states.Running
+  saved : task.saved ≡ states.Running
+
+awake-with_top : (l : Option LockId) (top : Option ℕ) (task : TaskPart) → IsAwake task → IsAwake (with_top l top task)
+awake-with_top None top task awake = awake
+awake-with_top (Some l) top task awake = record { state = awake.state; saved = awake.saved }
+
+awake-restored : (spinning : Bool) (task : TaskPart) → IsAwake task → IsAwake (restored spinning task)
+awake-restored true task awake = record { state = awake.saved; saved = refl }
+awake-restored false task awake = record { state = refl; saved = awake.saved }
+
+awake-leave_queue : (spinning : Bool) (task : TaskPart) → IsAwake task → IsAwake (leave_queue spinning task)
+awake-leave_queue spinning task awake =
+    let rested = awake-restored spinning task awake in
+    cond_both (is_some task.blocked) (record (restored spinning task) { blocked = None }) task IsAwake
+    (λ is. record { state = rested.state; saved = rested.saved }) (λ is. awake)
+
+-- one that is woken goes on to run
+awake-lock_woken : (spinning : Bool) (task : TaskPart) → IsAwake task → IsAwake (lock_woken spinning task)
+awake-lock_woken true task awake = record { state = ap lock_state_woken awake.state; saved = awake.saved }
+awake-lock_woken false task awake =
+    cond_both (sleeps task.state) (record task { state = states.Running }) (cond (sleeps task.saved) (record task { saved = states.Running }) task) IsAwake
+    (λ is. record { state = refl; saved = awake.saved })
+    (λ is. cond_both (sleeps task.saved) (record task { saved = states.Running }) task IsAwake (λ saved. record { state = awake.state; saved = refl }) (λ not_saved. awake))
+
+awake_state : (state : TaskState) → sleeps state ≡ false → state ≢ states.LockWait → state ≡ states.Running
+awake_state states.Running is ne = refl
+awake_state states.LockWait is ne = absurd (ne refl)
+awake_state states.Interruptible is ne = cc
+awake_state states.Uninterruptible is ne = cc
+
+-- and an ordinary wakeup leaves any task running that doesn't wait for a spinning kind
+woken_up-runs : (task : TaskPart) → task.state ≢ states.LockWait → (woken_up task).state ≡ states.Running
+woken_up-runs task ne =
+    cond_both (sleeps task.state) (record task { state = states.Running }) (cond (sleeps task.saved) (record task { saved = states.Running }) task) (λ (after : TaskPart). after.state ≡ states.Running)
+    (λ is. refl)
+    (λ is. cond_both (sleeps task.saved) (record task { saved = states.Running }) task (λ (after : TaskPart). after.state ≡ states.Running) (λ saved. awake_state task.state is ne) (λ not_saved. awake_state task.state is ne))
+
+-- an event of this kind sends its own task to sleep
+abbrev sleeps_after : EventKind → Bool
+sleeps_after kinds.Wait = true
+sleeps_after kinds.Again = true
+sleeps_after _ = false
+
+awake-own : (kind : EventKind) (e : Event) (th : ThreadPart) (found : Around) (lock : OwnerPart) → sleeps_after kind ≡ false → (task : TaskPart) → IsAwake task → IsAwake ((effect kind e th found).own lock task)
+awake-own kinds.Wait e th found lock is task awake = cc
+awake-own kinds.Again e th found lock is task awake = cc
+awake-own kinds.Take e th found lock is task awake = awake-with_top e.lock (top_key lock.rows) (leave_queue (spins (kind_named th e.lock)) task) (awake-leave_queue (spins (kind_named th e.lock)) task awake)
+awake-own kinds.Give e th found lock is task awake = awake-with_top e.lock None task awake
+awake-own _ e th found lock is task awake = awake
+
+awake-others : (kind : EventKind) (e : Event) (th : ThreadPart) (found : Around) (lock : OwnerPart) → OthersKeep IsAwake (effect kind e th found) lock
+awake-others kinds.Wait e th found lock = record { owner = λ task. awake-with_top e.lock (top_key lock.rows) task; other = λ task awake. awake; woken = λ task awake. awake }
+awake-others kinds.Give e th found lock = record { owner = λ task awake. awake; other = λ task awake. awake; woken = λ task. awake-lock_woken (spins (kind_named th e.lock)) task }
+awake-others _ e th found lock = record { owner = λ task awake. awake; other = λ task awake. awake; woken = λ task awake. awake }
+
+-- ---- the law
+
+-- the row's task runs
+abbrev Runs : State → Row → Type 0
+Runs s row = (task_part s (task_of row)).state ≡ states.Running
+
+-- the top waiter of the lock runs, where nobody owns it
+abbrev HasAwakeTop : State → OwnerPart → Type 0
+HasAwakeTop s lock = lock.owner ≡ None → IfSome (top_waiter lock.rows) (Runs s)
+
+module _ (s : State) (made : ℕ) (t : TaskId) (e : Event) (lawful : IsLawful s made) where
+  -- so it does afterwards at a lock that is as it was, where it goes on to run
+  still_awake : (m : LockId) → ((row : Row) → (owner_part s m).owner ≡ None → top_waiter (owner_part s m).rows ≡ Some row → IsAwake (task_part s (task_of row)) → IsAwake (task_part (state_after s e) (task_of row)))
+      → HasAwakeTop (state_after s e) (owner_part s m)
+  still_awake m stays none =
+      if_some (top_waiter (owner_part s m).rows) (Runs s) (Runs (state_after s e))
+      (λ row top runs. (stays row none top (record { state = runs; saved = lawful.states.saved (task_of row) })).state) (lawful.awake m none)
+
+  -- each task that runs goes on to, where the event's own isn't sent to sleep
+  all_awake : (m : LockId) → sleeps_after e.kind ≡ false → HasAwakeTop (state_after s e) (owner_part s m)
+  all_awake m is =
+      let th = thread_part s e.task in
+      let found = around (shared s) (touched e.kind e) in
+      let lock = lock_left (shared s) th e in
+      still_awake m (λ row none top awake. task-keeps IsAwake s e (task_of row) awake (awake-own e.kind e th found lock is) (awake-others e.kind e th found lock))
+
+  -- and where that one isn't the top waiter
+  others_awake : (m : LockId) → e.task ≡ t → ((row : Row) → (owner_part s m).owner ≡ None → top_waiter (owner_part s m).rows ≡ Some row → is_of t row ≡ false) → HasAwakeTop (state_after s e) (owner_part s m)
+  others_awake m own isnt =
+      let th = thread_part s e.task in
+      let found = around (shared s) (touched e.kind e) in
+      let lock = lock_left (shared s) th e in
+      still_awake m (λ row none top awake. other-keeps IsAwake s e (task_of row) (ap (λ (v : TaskId). nat_eq v.0 row.who) own ∙ others_row t row (isnt row none top)) awake (awake-others e.kind e th found lock))
+
+  -- a task that waits anew is no top waiter
+  wait-awake : (l m : LockId) → IsWait s t l e → HasAwakeTop (state_after s e) (owner_part s m)
+  wait-awake l m is =
+      others_awake m (ap (λ (x : Event). x.task) is.event)
+      (λ row none top. top-at (λ (r : Row). is_of t r ≡ false) (owner_part s m).rows row (none_of t (owner_part s m).rows (slow-unqueued s made t lawful m (calls.Lock l) is.at)) top)
+
+  -- and its row stands after the top waiter
+  wait-here : (l : LockId) → IsWait s t l e → (owner_part s l).owner ≡ None
+      → IfSome (top_waiter (insert_row (record { key = effective_of (task_part s t); ticket = (owner_part s l).ticket; who = t.0 }) (owner_part s l).rows)) (Runs (state_after s e))
+  wait-here l is none =
+      subst (λ (o : Option Row). IfSome o (Runs (state_after s e)))
+      (sym (queued_after t (kind_of (thread_part s t) l) (owner_part s l) (task_part s t) is.cannot none (slow-unqueued s made t lawful l (calls.Lock l) is.at) (lawful.rows.queue l)))
+      (wait-awake l l is none)
+
+  -- nor is one that sleeps again, of a lock that nobody owns
+  again-awake : (l m : LockId) → IsAgain s t l e → HasAwakeTop (state_after s e) (owner_part s m)
+  again-awake l m is = others_awake m (ap (λ (x : Event). x.task) is.event) isnt
+    where
+      isnt : (row : Row) → (owner_part s m).owner ≡ None → top_waiter (owner_part s m).rows ≡ Some row → is_of t row ≡ false
+      isnt row none top =
+          at_each_lock (λ (k : LockId). (owner_part s k).owner ≡ None → top_waiter (owner_part s k).rows ≡ Some row → is_of t row ≡ false) l m
+          (λ none top. not_top t (kind_of (thread_part s t) l) (owner_part s l) (task_part s t) row is.cannot none top)
+          (λ there none top. top-at (λ (r : Row). is_of t r ≡ false) (owner_part s m).rows row (none_of t (owner_part s m).rows (lawful.rows.rows m t ∙ wait-elsewhere s made t lawful l m is.at there)) top)
+          none top
+
+  -- the top waiter of a lock that is given up is woken
+  give-here : (l : LockId) → IsGive s t l e → (row : Row) → top_waiter (owner_part s l).rows ≡ Some row → Runs (state_after s e) row
+  give-here l is row top =
+      subst (λ (x : Event). Runs (state_after s x) row) (sym is.event)
+      (slot-left (λ (task : TaskPart). task.state ≡ states.Running) given (top_task rows) (task_of row) (lock_woken spinning) there
+      (λ woken. subst (λ (b : Bool). (lock_woken b task).state ≡ states.Running) (sym (spins-known s t (Some l) lawful.stage)) (woken_up-runs task waits)) (λ asleep. absurd (not_woken asleep)))
+    where
+      rows : List Row
+      rows = (owner_part s l).rows
+
+      spinning : Bool
+      spinning = spins (kind_of (thread_part s t) l)
+
+      given : List TaskPart
+      given = at_task s.tasks (Some t) (with_top (Some l) None)
+
+      task : TaskPart
+      task = unwrap_or (slice_get given row.who) no_task
+
+      waits : task.state ≢ states.LockWait
+      waits = slot-keeps (λ (other : TaskPart). other.state ≢ states.LockWait) s.tasks (Some t) (task_of row) (with_top (Some l) None) (lawful.states.state (task_of row)) (λ other was. was)
+
+      there : IfSome (top_task rows) (λ u. u.0 < length given)
+      there =
+          subst (λ (n : ℕ). IfSome (top_task rows) (λ u. u.0 < n)) (sym (length-at_task s.tasks (Some t) (with_top (Some l) None) ∙ lawful.shape.tasks))
+          (top_within (length s.threads) rows (rows_within s l lawful.shape is.at.served))
+
+      not_woken : owned_by (top_task rows) (task_of row) ≡ false → ⊥
+      not_woken asleep =
+          let here : nat_eq row.who row.who ≡ false = subst (λ (o : Option Row). owned_by (option_map task_of o) (task_of row) ≡ false) top asleep in
+          let itself = number_itself row.who in cc
+
+-- awake-top law
+pub AwakeTopLaw-next : (s : State) (made : ℕ) (t : TaskId) (e : Event) → IsLawful s made → IsNext s t e → AwakeTopLaw (state_after s e)
+AwakeTopLaw-next s made t e lawful next m = by_kind next
+  where
+    Awake : LockId → OwnerPart → Type 0
+    Awake k lock = HasAwakeTop (state_after s e) lock
+
+    kept : (x : Event) → e ≡ x → sleeps_after x.kind ≡ false → Awake m (owner_part s m)
+    kept x is awake = all_awake s made t e lawful m (ap (λ (y : Event). sleeps_after y.kind) is ∙ awake)
+
+    by_kind : IsNext s t e → Awake m (owner_part (state_after s e) m)
+    by_kind (by_own call answer is) = lock-kept (Awake m) s e _ m is.event (kept _ is.event refl) (λ lock was. was)
+    by_kind (by_acquire l (is_mark is)) = lock-kept (Awake m) s e _ m is.event (kept _ is.event refl) (λ lock was. was)
+    by_kind (by_acquire l (is_fast is)) = lock-kept (Awake m) s e _ m is.event (kept _ is.event refl) (λ lock was none. absurd cc)
+    by_kind (by_acquire l (is_take is)) = lock-kept (Awake m) s e _ m is.event (kept _ is.event refl) (λ lock was none. absurd cc)
+    by_kind (by_wait l (is_wait is)) = lock-made Awake s e _ l m is.event refl is.at.served (wait-here s made t e lawful l is) (λ there. wait-awake s made t e lawful l m is)
+    by_kind (by_wait l (is_again is)) = lock-kept (Awake m) s e _ m is.event (again-awake s made t e lawful l m is) (λ lock was. was)
+    by_kind (by_release l (is_free is)) =
+        lock-made Awake s e _ l m is.event refl is.at.served (λ none. subst (λ (rows : List Row). IfSome (top_waiter rows) (Runs (state_after s e))) (sym ((lawful.rows.queue l).clear is.bit)) tt) (λ there. kept _ is.event refl)
+    by_kind (by_release l (is_give is)) = lock-made Awake s e _ l m is.event refl is.at.served (λ none. if_found (top_waiter (owner_part s l).rows) (Runs (state_after s e)) (give-here s made t e lawful l is)) (λ there. kept _ is.event refl)

@@ -1,0 +1,270 @@
+-- Each task's events make its calls once and in order.
+use Rattle.std.proofs.Common.{◌≡◌, inl, inr, ℕ, zero, suc, ◌+◌, ◌<◌, ◌≤◌, Bool, true, false, cond, List, [], ◌∷◌, length, drop, refl, sym, ap, ◌∙◌, subst, Option, Some, None, All, unwrap_or, arith}
+use Rattle.std.specs.Prelude.{slice_get, nat_eq}
+use Rattle.std.proofs.lemmas.List.Elements.{All-head, All-tail}
+use Rattle.std.proofs.lemmas.List.Sums.{AllPass-from_list_all}
+use Rattle.std.proofs.lemmas.Option.{slice_get_cases}
+use Rattle.rt_base.specs.Script.{Script, TaskLine, task_line}
+use Rattle.rt_base.specs.declared.call.Call.{Call}
+use Rattle.rt_base.specs.declared.call.Call.TheVariants as calls
+use Rattle.rt_base.specs.declared.ended.Ended.TheVariants.{Done, Stuck, Limit}
+use Rattle.rt_base.specs.declared.id.Cpu.{Cpu}
+use Rattle.rt_base.specs.declared.id.TaskId.{TaskId}
+use Rattle.rt_base.specs.declared.kind.Kind.{Kind}
+use Rattle.rt_base.specs.declared.kind.Kind.TheVariants.{Mutex}
+use Rattle.rt_base.specs.declared.reply.Reply.{Reply}
+use Rattle.rt_base.specs.declared.reply.Reply.TheVariants as replies
+use Rattle.rt_model.specs.declared.event.Event.{Event}
+use Rattle.rt_model.specs.declared.event_kind.EventKind.{EventKind}
+use Rattle.rt_model.specs.declared.event_kind.EventKind.TheVariants as kinds
+use Rattle.rt_model.specs.declared.hold.Hold.{Hold}
+use Rattle.rt_model.specs.declared.phase.Phase.{Phase}
+use Rattle.rt_model.specs.Parts.{ThreadPart, call_of}
+use Rattle.rt_model.specs.State.{State, shared, start, fresh_thread, no_thread, kinds_in, thread_part}
+use Rattle.rt_model.specs.steps.Thread.{answered_with}
+use Rattle.rt_model.specs.Effect.{Around, around}
+use Rattle.rt_model.specs.Choice.{called_lock}
+use Rattle.rt_model.specs.events.Own.{unless_nested, if_held, if_not_held, spinning_holds}
+use Rattle.rt_model.specs.Rules.{touched, effect}
+use Rattle.rt_model.specs.StateAfter.{effect_in, shared_after, thread_after, state_after}
+use Rattle.rt_model.specs.Run.{after, IsRun, is_at_end, is_done, is_stuck, ended_of}
+use Rattle.rt_model.specs.Stage.{IsStaged}
+use Rattle.rt_model.specs.laws.Lawful.{IsLawful}
+use Rattle.rt_model.specs.laws.Shape.{IsOf}
+use Rattle.rt_model.specs.laws.Calls.{can_have, IsOfCall, then_make, makes_first, Make, events_of, answered_after, CallsLaw}
+use Rattle.rt_model.proofs.Lists.{All-default, read-map}
+use Rattle.rt_model.proofs.Numbers.{same_task}
+use Rattle.rt_model.proofs.Calling.{IsIn}
+use Rattle.rt_model.proofs.NextEvents.{IsNext, by_own, by_acquire, by_wait, by_release}
+use Rattle.rt_model.proofs.events.Own.{IsOwn}
+use Rattle.rt_model.proofs.events.Acquire.{is_fast, is_mark, is_take}
+use Rattle.rt_model.proofs.events.Wait.{is_wait, is_again}
+use Rattle.rt_model.proofs.events.Release.{is_free, is_give}
+use Rattle.rt_model.proofs.PartsAfter.{read-update, read-update_other}
+use Rattle.rt_model.proofs.Prefixes.{run-next, run-lawful, next-task, IsOf-along}
+use Rattle.rt_model.proofs.Starts.{IsOf-start}
+use Rattle.rt_model.proofs.laws.Shape.{IsOf-threads}
+use Rattle.rt_model.proofs.laws.States.{kinds_known}
+
+-- ---- an event is one of its task's call
+
+-- the call that the task is at, and the event is one of it
+record IsAtCall (s : State) (t : TaskId) (e : Event) : Type 0 where
+  call : Call
+  at : call_of (thread_part s t) ≡ Some call
+  of : IsOfCall (thread_part s t).cpu call e
+
+-- a thread that knows mutexes alone has no hold that spins
+none-spins : (kinds : List Kind) (holds : List Hold) → All (λ (kind : Kind). kind ≡ Mutex) kinds → spinning_holds kinds holds ≡ 0
+none-spins [] holds all = refl
+none-spins (kind ∷ kinds) [] all = refl
+none-spins (kind ∷ kinds) (hold ∷ holds) all =
+    let here : kind ≡ Mutex = All-head (λ (k : Kind). k ≡ Mutex) kind kinds all in
+    let rest = none-spins kinds holds (All-tail (λ (k : Kind). k ≡ Mutex) kind kinds all) in
+    rw here (omega (arith, rest))
+
+deadlock-answer : (nested : ℕ) (held : Bool) (answer : Reply) → nested ≡ 0 → unless_nested nested (if_held held) ≡ Some answer → answer ≡ replies.Deadlock
+deadlock-answer nested held answer none is = by_held held (subst (λ (n : ℕ). unless_nested n (if_held held) ≡ Some answer) none is)
+  where
+    by_held : (h : Bool) → if_held h ≡ Some answer → answer ≡ replies.Deadlock
+    by_held true some = cc
+    by_held false some = cc
+
+notowner-answer : (held : Bool) (answer : Reply) → if_not_held held ≡ Some answer → answer ≡ replies.NotOwner
+notowner-answer true answer is = cc
+notowner-answer false answer is = cc
+
+-- an event that comes about as x, of a call
+written : (cpu : Cpu) (call : Call) (e x : Event) → e ≡ x → can_have call x.kind x.reply ≡ true → x.lock ≡ called_lock cpu call → IsOfCall cpu call e
+written cpu call e x is can lock = subst (IsOfCall cpu call) (sym is) (record { can = can; lock = lock })
+
+own-of : (s : State) (t : TaskId) (call : Call) (answer : Reply) (e : Event) → IsStaged s → IsOwn s t call answer e → IsOfCall (thread_part s t).cpu call e
+own-of s t (calls.Lock l) answer e staged is =
+    let deadlock = deadlock-answer _ _ answer (none-spins (thread_part s t).kinds (thread_part s t).holds (kinds_known s t staged)) is.why in
+    written (thread_part s t).cpu (calls.Lock l) e _ is.event (ap (λ (a : Reply). can_have (calls.Lock l) kinds.Own (Some a)) deadlock) refl
+own-of s t (calls.Unlock l) answer e staged is =
+    let notowner = notowner-answer _ answer is.why in
+    written (thread_part s t).cpu (calls.Unlock l) e _ is.event (ap (λ (a : Reply). can_have (calls.Unlock l) kinds.Own (Some a)) notowner) refl
+own-of s t _ answer e staged is = absurd is.at.served
+
+-- an event that comes about as x, in a phase of this call
+in_call : (s : State) (t : TaskId) (phase : Phase) (call : Call) (e x : Event) → IsIn s t phase call → e ≡ x → can_have call x.kind x.reply ≡ true → x.lock ≡ called_lock (thread_part s t).cpu call → IsAtCall s t e
+in_call s t phase call e x at is can lock = record { call = call; at = at.calling; of = written (thread_part s t).cpu call e x is can lock }
+
+its_call : (s : State) (t : TaskId) (e : Event) → IsStaged s → IsNext s t e → IsAtCall s t e
+its_call s t e staged (by_own call answer is) = record { call = call; at = is.at.calling; of = own-of s t call answer e staged is }
+its_call s t e staged (by_acquire l (is_fast is)) = in_call s t _ _ e _ is.at is.event refl refl
+its_call s t e staged (by_acquire l (is_mark is)) = in_call s t _ _ e _ is.at is.event refl refl
+its_call s t e staged (by_acquire l (is_take is)) = in_call s t _ _ e _ is.at is.event refl refl
+its_call s t e staged (by_wait l (is_wait is)) = in_call s t _ _ e _ is.at is.event refl refl
+its_call s t e staged (by_wait l (is_again is)) = in_call s t _ _ e _ is.at is.event refl refl
+its_call s t e staged (by_release l (is_free is)) = in_call s t _ _ e _ is.at is.event refl refl
+its_call s t e staged (by_release l (is_give is)) = in_call s t _ _ e _ is.at is.event refl refl
+
+-- ---- what an event leaves of a thread's count, by its kind alone
+
+-- a thread with the calls and the processor of another, and this count of answers
+record IsAt (thread : ThreadPart) (n : ℕ) (other : ThreadPart) : Type 0 where
+  answered : other.answered ≡ n
+  calls : other.calls ≡ thread.calls
+  cpu : other.cpu ≡ thread.cpu
+
+kind-keeps : (kind : EventKind) (e : Event) (th : ThreadPart) (found left : Around) (thread : ThreadPart) → IsAt thread thread.answered ((effect kind e th found).thread left thread)
+kind-keeps kinds.Mark e th found left thread = record { answered = refl; calls = refl; cpu = refl }
+kind-keeps _ e th found left thread = record { answered = refl; calls = refl; cpu = refl }
+
+-- an answer counts
+abbrev answers : ℕ → Option Reply → ℕ
+answers n None = n
+answers n (Some answer) = suc n
+
+answer-counts : (thread : ThreadPart) (reply : Option Reply) → IsAt thread (answers thread.answered reply) (answered_with thread reply)
+answer-counts thread None = record { answered = refl; calls = refl; cpu = refl }
+answer-counts thread (Some answer) = record { answered = omega arith; calls = refl; cpu = refl }
+
+-- the event's own thread, and every other
+own-counts : (s : State) (e : Event) → e.task.0 < length s.threads → IsAt (thread_part s e.task) (answers (thread_part s e.task).answered e.reply) (thread_part (state_after s e) e.task)
+own-counts s e lt =
+    let th = thread_part s e.task in
+    let left = around (shared_after (shared s) th e) (touched e.kind e) in
+    let moved = (effect_in (shared s) th e).thread left th in
+    let kept : IsAt th th.answered moved = kind-keeps e.kind e th (around (shared s) (touched e.kind e)) left th in
+    let counts = answer-counts moved e.reply in
+    subst (IsAt th (answers th.answered e.reply)) (sym (read-update s.threads e.task.0 (λ old. thread_after (shared s) th e) no_thread lt))
+    (record { answered = counts.answered ∙ ap (λ (n : ℕ). answers n e.reply) kept.answered; calls = counts.calls ∙ kept.calls; cpu = counts.cpu ∙ kept.cpu })
+
+other-counts : (s : State) (e : Event) (t : TaskId) → nat_eq e.task.0 t.0 ≡ false → IsAt (thread_part s t) (thread_part s t).answered (thread_part (state_after s e) t)
+other-counts s e t other =
+    let same = read-update_other s.threads e.task.0 t.0 (λ old. thread_after (shared s) (thread_part s e.task) e) no_thread other in
+    record { answered = ap (λ (th : ThreadPart). th.answered) same; calls = ap (λ (th : ThreadPart). th.calls) same; cpu = ap (λ (th : ThreadPart). th.cpu) same }
+
+-- ---- over a run
+
+-- these events make the calls that are left at a thread, up to where it stands afterwards
+record Made (events : List Event) (before after_all : ThreadPart) : Type 0 where
+  count : ℕ
+  sum : after_all.answered ≡ before.answered + count
+  make : Make before.cpu events (drop before.answered before.calls) count
+
+make-at : (events : List Event) (before between : ThreadPart) (n count : ℕ) → IsAt before n between → Make between.cpu events (drop between.answered between.calls) count → Make before.cpu events (drop n before.calls) count
+make-at events before between n count at made =
+    subst (λ (cs : List Call). Make before.cpu events cs count) (λ i. drop (at.answered i) (at.calls i)) (subst (λ (cpu : Cpu). Make cpu events (drop between.answered between.calls) count) at.cpu made)
+
+-- an event of another task
+made-other : (events : List Event) (before between after_all : ThreadPart) → IsAt before before.answered between → Made events between after_all → Made events before after_all
+made-other events before between after_all at made = record {
+  count = made.count;
+  sum = made.sum ∙ ap (λ (n : ℕ). n + made.count) at.answered;
+  make = make-at events before between before.answered made.count at made.make;
+}
+
+-- the calls that are left, of which the next one is first
+drop-get : (xs : List Call) (i : ℕ) (x : Call) → slice_get xs i ≡ Some x → drop i xs ≡ x ∷ drop (suc i) xs
+drop-get [] i x is = cc
+drop-get (y ∷ xs) zero x is = let same : y ≡ x = cc in ap (λ z. z ∷ xs) same
+drop-get (y ∷ xs) (suc i) x is = drop-get xs i x is
+
+then-made : (rest : List Call → ℕ → Type 0) (xs : List Call) (i n : ℕ) (call : Call) (reply : Option Reply) → drop i xs ≡ call ∷ drop (suc i) xs → rest (drop (answers i reply) xs) n → then_make rest call (drop (suc i) xs) reply (answers n reply)
+then-made rest xs i n call None left made = subst (λ (cs : List Call). rest cs n) left made
+then-made rest xs i n call (Some answer) left made = made
+
+sum-answers : (i n : ℕ) (reply : Option Reply) → answers i reply + n ≡ i + answers n reply
+sum-answers i n None = refl
+sum-answers i n (Some answer) = omega arith
+
+-- an event of the task's own
+made-own : (e : Event) (call : Call) (events : List Event) (before between after_all : ThreadPart) → call_of before ≡ Some call → IsOfCall before.cpu call e
+    → IsAt before (answers before.answered e.reply) between → Made events between after_all → Made (e ∷ events) before after_all
+made-own e call events before between after_all calling of at made =
+    let left = drop-get before.calls before.answered call calling in
+    let made_rest = make-at events before between (answers before.answered e.reply) made.count at made.make in
+    record {
+      count = answers made.count e.reply;
+      sum = made.sum ∙ (ap (λ (n : ℕ). n + made.count) at.answered ∙ sum-answers before.answered made.count e.reply);
+      make = subst (λ (cs : List Call). makes_first (Make before.cpu events) before.cpu cs e (answers made.count e.reply)) (sym left)
+          (of, then-made (Make before.cpu events) before.calls before.answered made.count call e.reply left made_rest);
+    }
+
+made-after : (s : State) (made : ℕ) (events : List Event) (t : TaskId) → IsLawful s made → IsRun s events → Made (events_of t events) (thread_part s t) (thread_part (after s events) t)
+made-after s made [] t lawful run = record { count = 0; sum = omega arith; make = refl }
+made-after s made (e ∷ events) t lawful run =
+    by_test (nat_eq e.task.0 t.0) refl (made-after (state_after s e) (suc made) events t (run-lawful s made e events lawful run) run.1)
+  where
+    here : IsAtCall s e.task e
+    here = its_call s e.task e lawful.stage (run-next s made e events lawful run)
+
+    own : Made (events_of t events) (thread_part (state_after s e) e.task) (thread_part (after (state_after s e) events) t) → Made (e ∷ events_of t events) (thread_part s e.task) (thread_part (after (state_after s e) events) t)
+    own rest = made-own e here.call (events_of t events) _ _ _ here.at here.of (own-counts s e (next-task s e.task e run.0)) rest
+
+    by_test : (b : Bool) → nat_eq e.task.0 t.0 ≡ b → Made (events_of t events) (thread_part (state_after s e) t) (thread_part (after (state_after s e) events) t)
+        → Made (cond b (e ∷ events_of t events) (events_of t events)) (thread_part s t) (thread_part (after (state_after s e) events) t)
+    by_test false other rest = made-other (events_of t events) _ _ _ (other-counts s e t other) rest
+    by_test true same rest =
+        let one : e.task ≡ t = same_task e.task t same in
+        subst (λ (u : TaskId). Made (e ∷ events_of t events) (thread_part s u) (thread_part (after (state_after s e) events) t)) one
+        (own (subst (λ (u : TaskId). Made (events_of t events) (thread_part (state_after s e) u) (thread_part (after (state_after s e) events) t)) (sym one) rest))
+
+-- ---- all calls
+
+-- no more calls are answered than there are
+reply-le : (rest : List Call → ℕ → Type 0) (call : Call) (calls : List Call) (reply : Option Reply) (n : ℕ) → ((cs : List Call) (m : ℕ) → rest cs m → m ≤ length cs) → then_make rest call calls reply n → n ≤ suc (length calls)
+reply-le rest call calls None n le made = le (call ∷ calls) n made
+reply-le rest call calls (Some answer) zero le made = absurd made
+reply-le rest call calls (Some answer) (suc n) le made = let most = le calls n made in omega arith
+
+make-le : (cpu : Cpu) (events : List Event) (calls : List Call) (n : ℕ) → Make cpu events calls n → n ≤ length calls
+make-le cpu [] calls n made = omega (arith, made)
+make-le cpu (e ∷ events) [] n made = absurd made
+make-le cpu (e ∷ events) (call ∷ calls) n made = reply-le (Make cpu events) call calls e.reply n (λ cs m. make-le cpu events cs m) made.1
+
+-- a run that ended done left every thread at its end
+ended-done : (s : State) → ended_of s ≡ Done → is_done s ≡ true
+ended-done s ended = by_test (is_done s) (is_stuck s) refl ended
+  where
+    by_test : (b c : Bool) → is_done s ≡ b → cond b Done (cond c Stuck Limit) ≡ Done → b ≡ true
+    by_test true c is eq = refl
+    by_test false true is eq = cc
+    by_test false false is eq = cc
+
+-- a thread at its end has answered as many as it has
+at_end : (thread : ThreadPart) → is_at_end thread ≡ true → length thread.calls ≤ thread.answered
+at_end thread none = elim (slice_get_cases thread.calls thread.answered).1 [
+  | inl here ↦ absurd (some here.0 here.2 none)
+  | inr past ↦ past.0
+]
+  where
+    some : (call : Call) → call_of thread ≡ Some call → is_at_end thread ≡ true → ⊥
+    some call is none = cc
+
+-- ---- the law
+
+-- a thread at the start
+thread-start : (script : Script) (t : TaskId) → t.0 < length script.tasks → thread_part (start script) t ≡ fresh_thread (kinds_in script) (task_line script t).calls (task_line script t).cpu
+thread-start script t lt = read-map (λ (line : TaskLine). fresh_thread (kinds_in script) line.calls line.cpu) script.tasks t.0 _ _ lt
+
+-- a thread of a state of the script has the calls of its line
+calls-of : (script : Script) (s : State) (t : TaskId) → IsOf script s → t.0 < length script.tasks → t.0 < length s.threads → (thread_part s t).calls ≡ (task_line script t).calls
+calls-of script s t is lt there =
+    sym (read-map (λ (thread : ThreadPart). thread.calls) s.threads t.0 _ [] there)
+    ∙ (ap (λ (cs : List (List Call)). unwrap_or (slice_get cs t.0) []) is.calls ∙ read-map (λ (line : TaskLine). line.calls) script.tasks t.0 _ [] lt)
+
+module _ (script : Script) (events : List Event) (lawful : IsLawful (start script) 0) (run : IsRun (start script) events) where
+  made-calls : (t : TaskId) → t.0 < length script.tasks → Make (task_line script t).cpu (events_of t events) (task_line script t).calls (answered_after script events t)
+  made-calls t lt =
+      let made = subst (λ (thread : ThreadPart). Made (events_of t events) thread (thread_part (after (start script) events) t)) (thread-start script t lt) (made-after (start script) 0 events t lawful run) in
+      let count : made.count ≡ answered_after script events t = let sum = made.sum in omega arith in
+      subst (λ (n : ℕ). Make (task_line script t).cpu (events_of t events) (task_line script t).calls n) count made.make
+
+  all-calls : ended_of (after (start script) events) ≡ Done → (t : TaskId) → t.0 < length script.tasks → answered_after script events t ≡ length (task_line script t).calls
+  all-calls ended t lt =
+      let s = after (start script) events in
+      let is : IsOf script s = IsOf-along script (start script) events (IsOf-start script) run in
+      let there : t.0 < length s.threads = subst (λ (n : ℕ). t.0 < n) (sym (IsOf-threads script s is)) lt in
+      let done = AllPass-from_list_all is_at_end s.threads (ended-done s ended) in
+      let least = at_end (thread_part s t) (All-default (λ (thread : ThreadPart). is_at_end thread ≡ true) s.threads t.0 _ done there) in
+      let same : length (thread_part s t).calls ≡ length (task_line script t).calls = ap length (calls-of script s t is lt there) in
+      let most = make-le (task_line script t).cpu (events_of t events) (task_line script t).calls (answered_after script events t) (made-calls t lt) in
+      omega arith
+
+  pub calls-law : CallsLaw script events
+  calls-law = record { made = made-calls; all = all-calls }

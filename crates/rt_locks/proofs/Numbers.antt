@@ -24,5 +24,5 @@ came row rows new is le all =
     subst (λ (rs : List Row). HasPriorities rs × HasTickets (row.ticket + 1) rs) (sym is) (
       All-insert_row (λ (r : Row). r.key ≤ 139) row rows le all.0,
       All-insert_row (λ (r : Row). r.ticket < row.ticket + 1) row rows (omega arith)
-      (All-weaker (λ (r : Row). r.ticket < row.ticket) (λ (r : Row). r.ticket < row.ticket + 1) (λ r lt. omega (arith, lt)) rows all.1),
+          (All-weaker (λ (r : Row). r.ticket < row.ticket) (λ (r : Row). r.ticket < row.ticket + 1) (λ r lt. omega (arith, lt)) rows all.1),
     )

@@ -167,7 +167,7 @@ impl LockCell {
         ensures part { self.new ≡ record self.old { part = taken_by t self.old.part } }
         ensures top { result ≡ top_waiter self.new.part.rows }
     {
-        let _row = self.waiters.remove(t.0, steps);
+        let _taken = self.waiters.remove(t.0, steps);
         let top = self.waiters.top();
         self.owner = Some(t);
         self.bit = top.is_some();
@@ -210,7 +210,7 @@ impl LockCell {
         ensures top { result ≡ is_top t self.old.part.rows }
     {
         let was_top = is_first(self.waiters.top(), t);
-        let _row = self.waiters.remove(t.0, steps);
+        let _left = self.waiters.remove(t.0, steps);
         self.bit = self.waiters.top().is_some();
         was_top
     }

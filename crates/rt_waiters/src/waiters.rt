@@ -103,8 +103,9 @@ impl Waiters {
         ensures rows { self.new ≡ record self.old { rows = insert_row (record { key = key; ticket = ticket; who = who }) (without (record { 0 = who }) self.old.rows) } }
         ensures cost { steps.new ≤ steps.old + length self.old.rows }
     {
-        drop_row(&mut self.rows, who);
-        put_in_order(&mut self.rows, Row { key, ticket, who }, steps);
+        let row = Row { key, ticket, who };
+        drop_row(&mut self.rows, row.who);
+        put_in_order(&mut self.rows, row, steps);
     }
 }
 

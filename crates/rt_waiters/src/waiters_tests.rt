@@ -1,3 +1,5 @@
+ghost use Rattle.std.specs.Prelude.{◌≡◌, ◌<◌, []};
+
 use crate::{Row, Steps, Waiters};
 use std::marker::Brand;
 use std::process::Abort;
@@ -32,7 +34,10 @@ fn three_wait<L: Ledger>(rt: &impl Abort, waiters: Waiters, blank: Blank)
     let rows = [last, row(10, 2, 1), row(10, 4, 0)];
     assert_eq!(rt; waiters.rows(), rows.as_slice());
     assert_eq!(rt; (waiters.len(), waiters.top()), (3, Some(last)));
-    assert_eq!(rt; (waiters.row(0), waiters.row(3)), (Some(row(10, 4, 0)), None));
+    assert_eq!(rt;
+        (waiters.row(0), waiters.row(3)),
+        (Some(row(10, 4, 0)), None)
+    );
     assert_eq!(rt; waiters.remove(2, &mut steps), Some(last));
     assert_eq!(rt; waiters.remove(2, &mut steps), None);
     assert_eq!(rt; (waiters.len(), waiters.top()), (2, Some(row(10, 2, 1))));

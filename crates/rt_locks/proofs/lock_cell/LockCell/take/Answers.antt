@@ -4,4 +4,4 @@ use Rattle.rt_locks.proofs.Numbers.{left}
 use Rattle.rt_locks.proofs.lock_cell.LockCell.take.Goals as goal
 
 pub invariant_of-self : goal.invariant_of-self
-invariant_of-self g c = left c.self.inside.ticket c.args.t c.self.inside.waiters.rows c.remove-row.new.self.rows (ap (λ (q : Queue). q.rows) c.remove-row.ensures.rows) c.self.invariant
+invariant_of-self g c = left c.self.inside.ticket c.args.t c.self.inside.waiters.rows c.remove-taken.new.self.rows (ap (λ (q : Queue). q.rows) c.remove-taken.ensures.rows) c.self.invariant

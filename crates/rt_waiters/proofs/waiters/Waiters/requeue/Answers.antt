@@ -32,8 +32,8 @@ invariant_of-self g c =
     let items : c.put_in_order.new.rows.items ≡ insert_row row (without t rows) = c.put_in_order.ensures.items ∙ ap (insert_row row) c.drop_row.ensures.items in
     let capacity = c.put_in_order.ensures.capacity ∙ c.drop_row.ensures.capacity in (
       subst (IsQueued c.self.inside.room) (sym items)
-      (queued-insert c.self.inside.room row (without t rows) below (row_of-without t rows)
-      (All-filter (λ (r : Row). not (is_of t r)) (λ (r : Row). r.ticket ≢ c.args.ticket) rows fresh) (queued-without c.self.inside.room t rows c.self.invariant.0)),
+          (queued-insert c.self.inside.room row (without t rows) below (row_of-without t rows)
+          (All-filter (λ (r : Row). not (is_of t r)) (λ (r : Row). r.ticket ≢ c.args.ticket) rows fresh) (queued-without c.self.inside.room t rows c.self.invariant.0)),
       subst (λ (n : ℕ). c.self.inside.room ≤ n) (sym capacity) c.self.invariant.1,
       c.self.invariant.2,
     )

@@ -3,3 +3,4 @@ pub mod PrefixesAll
 pub mod OwnerParts
 pub mod ReportShort
 pub mod SharedSteps
+pub mod Starting

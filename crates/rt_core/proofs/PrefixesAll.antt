@@ -10,8 +10,8 @@ one-more P (y ∷ xs) zero x front here = All-cons P y [] here (All-nil P)
 one-more P (y ∷ xs) (suc i) x front here = All-cons P y (take (suc i) xs) (All-head P y (take i xs) front) (one-more P xs i x (All-tail P y (take i xs) front) here)
 
 -- one element more
-pub front-all : {X : Type 0} (P : X → Type 0) (xs : List X) (i : ℕ) (x : X) → All P (take i xs) → P (get_or xs i x) → All P (take (i + 1) xs)
-front-all P xs i x front here = rw add-one (one-more P xs i x front here)
+pub prefix-all : {X : Type 0} (P : X → Type 0) (xs : List X) (i : ℕ) (x : X) → All P (take i xs) → P (get_or xs i x) → All P (take (i + 1) xs)
+prefix-all P xs i x front here = rw add-one (one-more P xs i x front here)
 
 -- the whole list
 pub whole-all : {X : Type 0} (P : X → Type 0) (xs : List X) (n : ℕ) → length xs ≤ n → All P (take n xs) → All P xs
@@ -23,5 +23,5 @@ one-read P (y ∷ xs) zero d lt front here = All-cons P y [] here (All-nil P)
 one-read P (y ∷ xs) (suc i) d lt front here = All-cons P y (take (suc i) xs) (All-head P y (take i xs) front) (one-read P xs i d (omega arith) (All-tail P y (take i xs) front) here)
 
 -- one element more, read with a default
-pub front-read : {X : Type 0} (P : X → Type 0) (xs : List X) (i : ℕ) (d : X) → i < length xs → All P (take i xs) → P (unwrap_or (slice_get xs i) d) → All P (take (i + 1) xs)
-front-read P xs i d lt front here = rw add-one (one-read P xs i d lt front here)
+pub prefix-read : {X : Type 0} (P : X → Type 0) (xs : List X) (i : ℕ) (d : X) → i < length xs → All P (take i xs) → P (unwrap_or (slice_get xs i) d) → All P (take (i + 1) xs)
+prefix-read P xs i d lt front here = rw add-one (one-read P xs i d lt front here)

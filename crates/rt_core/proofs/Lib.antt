@@ -4,3 +4,4 @@ pub mod OwnerParts
 pub mod ReportShort
 pub mod SharedSteps
 pub mod Starting
+pub mod Leaving

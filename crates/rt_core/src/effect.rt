@@ -39,7 +39,7 @@ fn make_on_lock(shared: &mut Shared, thread: &mut Thread, e: &Event, l: LockId)
         EventKind::Mark => acquire::mark(shared, thread, l),
         EventKind::Take => acquire::take(shared, e, l, thread.kind_of(l)),
         EventKind::Wait => wait::wait(shared, thread, e, l),
-        EventKind::Again => wait::again(shared, thread, e, l),
+        EventKind::Again => wait::again(shared, e, thread.rest_for(l)),
         EventKind::Free => release::free(shared, l),
         EventKind::Give => release::give(shared, e, l, thread.kind_of(l)),
         _ => {}

@@ -4,11 +4,12 @@ ghost use Rattle.rt_model.specs.State.{fresh_thread};
 ghost use Rattle.rt_model.specs.Stage.{IsServed};
 ghost use Rattle.rt_model.specs.Choice.{called_lock};
 ghost use Rattle.rt_model.specs.events.Own.{is_held};
+ghost use Rattle.rt_model.specs.steps.Task.{rest_of, sleep_of};
 ghost use Rattle.rt_model.specs.steps.Thread.{answered_with, holds_after, with_hold};
 ghost use Rattle.rt_model.specs.Run.{is_at_end};
 ghost use Rattle.rt_model.specs.Order.{in_walk};
 
-use rt_base::{Call, Cpu, Kind, LockId, NoMemory, Reply};
+use rt_base::{Call, Cpu, Kind, LockId, NoMemory, Reply, TaskState};
 use rt_model::{Hold, Phase};
 use std::alloc::Global;
 use std::marker::Model;
@@ -171,8 +172,20 @@ impl Thread {
     }
 }
 
-// What an event does to its thread.
+// What an event asks of its thread, and what it does to it.
 impl Thread {
+    /// The state in which its call waits for a lock.
+    pub fn rest_for(&self, l: LockId) -> TaskState
+        requires { l.0 < length self.now.kinds }
+        ensures { result ≡ rest_of (kind_of self.now l) (call_of self.now) }
+    {
+        if self.kind_of(l).spins() {
+            TaskState::LockWait
+        } else {
+            sleep_of(self.call())
+        }
+    }
+
     /// Its call goes on in this phase.
     pub fn go_to(&mut self, phase: Phase)
         ensures { self.new ≡ record self.old { phase = phase } }
@@ -209,5 +222,15 @@ impl Thread {
         ensures { self.new ≡ record self.old { holds = with_hold self.old l owns } }
     {
         self.holds[l.0 as usize].owns = owns;
+    }
+}
+
+// The state in which a call sleeps in an ordinary way.
+fn sleep_of(call: Option<Call>) -> TaskState
+    ensures { result ≡ sleep_of call }
+{
+    match call {
+        Some(Call::LockInt(_)) => TaskState::Interruptible,
+        _ => TaskState::Uninterruptible,
     }
 }

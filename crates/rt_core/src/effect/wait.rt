@@ -5,12 +5,12 @@ ghost use Rattle.rt_model.specs.Rows.{row_of};
 ghost use Rattle.rt_model.specs.State.{lock_in, task_in, task_at};
 ghost use Rattle.rt_model.specs.StateAfter.{update, at_task};
 ghost use Rattle.rt_model.specs.steps.Lock.{queued};
-ghost use Rattle.rt_model.specs.steps.Task.{rest_of, sleep_of, blocked_on, refreshed};
+ghost use Rattle.rt_model.specs.steps.Task.{rest_of, blocked_on, refreshed};
 ghost use Rattle.rt_model.specs.events.Wait.{phase_after_wait};
 
 use crate::shared::Shared;
 use crate::thread::Thread;
-use rt_base::{Call, Kind, LockId, Path, TaskId, TaskState};
+use rt_base::{LockId, Path, TaskId, TaskState};
 use rt_model::{Event, Phase, Route};
 
 /// The task is queued and blocked, and the lock's owner keeps the key of its top waiter.
@@ -30,11 +30,19 @@ pub fn wait(shared: &mut Shared, thread: &mut Thread, e: &Event, l: LockId)
     ensures thread { thread.new ≡ record thread.old { phase = phase_after_wait e.now.task (Some l) e.now.owner (is_some (task_at shared.old e.now.owner).blocked) } }
 {
     let phase = phase_after_wait(shared, e.task, l, e.owner);
-    let rest = rest_of(thread.kind_of(l), thread.call());
+    let rest = thread.rest_for(l);
     shared.enqueue(l, e.task);
     shared.block(e.task, l, rest);
     shared.refresh(e.owner, l);
     thread.go_to(phase);
+}
+
+/// The task goes to this state again.
+pub fn again(shared: &mut Shared, e: &Event, rest: TaskState)
+    requires { e.now.task.0 < length shared.old.tasks }
+    ensures { shared.new ≡ record shared.old { tasks = update shared.old.tasks e.now.task.0 (λ task. record task { state = rest }) } }
+{
+    shared.rest_again(e.task, rest);
 }
 
 // A task that has been queued waits, and where the lock's owner is itself blocked it walks from there.
@@ -62,35 +70,4 @@ fn first_link(t: TaskId, l: LockId) -> Path
     let mut path = Path::empty();
     path.push(t, l);
     path
-}
-
-// The state in which a call waits for a lock of this kind.
-fn rest_of(kind: Kind, call: Option<Call>) -> TaskState
-    ensures { result ≡ rest_of kind call }
-{
-    if kind.spins() {
-        TaskState::LockWait
-    } else {
-        sleep_of(call)
-    }
-}
-
-// The state in which a call sleeps in an ordinary way.
-fn sleep_of(call: Option<Call>) -> TaskState
-    ensures { result ≡ sleep_of call }
-{
-    match call {
-        Some(Call::LockInt(_)) => TaskState::Interruptible,
-        _ => TaskState::Uninterruptible,
-    }
-}
-
-/// The task sleeps again.
-pub fn again(shared: &mut Shared, thread: &Thread, e: &Event, l: LockId)
-    requires task { e.now.task.0 < length shared.old.tasks }
-    requires lock { l.0 < length thread.now.kinds }
-    ensures { shared.new ≡ record shared.old { tasks = update shared.old.tasks e.now.task.0 (λ task. record task { state = rest_of (kind_of thread.now l) (call_of thread.now) }) } }
-{
-    let rest = rest_of(thread.kind_of(l), thread.call());
-    shared.rest_again(e.task, rest);
 }

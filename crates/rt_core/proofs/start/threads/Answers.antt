@@ -19,7 +19,7 @@ new-requires-clause-few c =
 
 pub new-requires-clause-few_locks : goal.new-requires-clause-few_locks
 new-requires-clause-few_locks c =
-    let long = ap length (c.as_slice.ensures ∙ c.in_ok-kinds_in.ensures) ∙ length-map c.args.script.now.locks (λ (line : LockLine). line.kind) in
+    let long = ap length (c.as_slice.ensures.value ∙ c.in_ok-kinds.ensures) ∙ length-map c.args.script.now.locks (λ (line : LockLine). line.kind) in
     let few = c.tasks-t-end.ensures.valid.locks in
     omega (arith, long, few)
 
@@ -27,7 +27,7 @@ pub new-requires-clause-served : goal.new-requires-clause-served
 new-requires-clause-served c =
     let lt : c.loop-t.t < length c.args.script.now.tasks = omega (arith, c.tasks-t-end.ensures.number) in
     let n = length c.args.script.now.locks in
-    let long = ap length (c.as_slice.ensures ∙ c.in_ok-kinds_in.ensures) ∙ length-map c.args.script.now.locks (λ (line : LockLine). line.kind) in
+    let long = ap length (c.as_slice.ensures.value ∙ c.in_ok-kinds.ensures) ∙ length-map c.args.script.now.locks (λ (line : LockLine). line.kind) in
     let served : All (IsServed n) (task_line c.args.script.now (record { 0 = c.loop-t.t })).calls =
     All-default (λ (line : TaskLine). All (IsServed n) line.calls) c.args.script.now.tasks c.loop-t.t _ (served_calls c.args.script.now c.tasks-t-end.ensures.valid c.requires) lt in
     subst (λ (m : ℕ). All (IsServed m) c.calls.result.now) (sym long) (subst (λ (calls : List Call). All (IsServed n) calls) (sym c.calls.ensures) served)
@@ -36,5 +36,5 @@ pub loop-t-preserved : goal.loop-t-preserved
 loop-t-preserved c =
     let tasks = c.args.script.now.tasks in
     let lt : c.loop-t.t < length tasks = omega (arith, c.tasks-t-end.ensures.number) in
-    let kinds = c.as_slice.ensures ∙ c.in_ok-kinds_in.ensures in
+    let kinds = c.as_slice.ensures.value ∙ c.in_ok-kinds.ensures in
     prefix-more (λ (line : TaskLine). fresh_thread (kinds_in c.args.script.now) line.calls line.cpu) tasks c.loop-t.t _ _ _ _ lt c.loop-t.invariant (c.in_ok-new.ensures ∙ (λ i. fresh_thread (kinds i) (c.calls.ensures i) (c.cpu.ensures i))) c.in_ok-push.ensures.items

@@ -1,7 +1,10 @@
 pub mod Prefixes
 pub mod PrefixesAll
 pub mod OwnerParts
-pub mod ReportShort
 pub mod SharedSteps
 pub mod Starting
 pub mod Leaving
+pub mod Applying
+pub mod EntryWellFormed
+pub mod Notes
+pub mod ReportShort

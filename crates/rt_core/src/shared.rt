@@ -1,4 +1,5 @@
 ghost use Rattle.std.specs.Prelude.{◌≡◌, ◌<◌, ◌≤◌, length, is_some, IfOk, IfSome};
+ghost use Rattle.rt_base.specs.Script.{IsScript};
 ghost use Rattle.rt_model.specs.Stage.{HasOneMutex};
 ghost use Rattle.rt_model.specs.State.{start, shared, lock_in, readers_in, task_in, task_at};
 
@@ -45,7 +46,8 @@ impl Shared {
     /// Free locks and running tasks, as many as the script has. All room for rows is taken here.
     pub fn new(alloc: Global, script: &Script) -> Result<Shared, NoMemory>
         requires { HasOneMutex script.now }
-        ensures { IfOk result (λ parts. parts ≡ shared (start script.now)) }
+        ensures start { IfOk result (λ parts. parts ≡ shared (start script.now)) }
+        ensures valid { IsScript script.now }
     {
         Ok(Shared {
             locks: lock_cells(alloc, script.locks(), script.tasks())?,

@@ -37,4 +37,4 @@ loop-t-preserved c =
     let tasks = c.args.script.now.tasks in
     let lt : c.loop-t.t < length tasks = omega (arith, c.tasks-t-end.ensures.number) in
     let kinds = c.as_slice.ensures.value ∙ c.in_ok-kinds.ensures in
-    prefix-more (λ (line : TaskLine). fresh_thread (kinds_in c.args.script.now) line.calls line.cpu) tasks c.loop-t.t _ _ _ _ lt c.loop-t.invariant (c.in_ok-new.ensures ∙ (λ i. fresh_thread (kinds i) (c.calls.ensures i) (c.cpu.ensures i))) c.in_ok-push.ensures.items
+    prefix-more (λ (line : TaskLine). fresh_thread (kinds_in c.args.script.now) line.calls line.cpu) tasks c.loop-t.t _ _ _ _ lt c.loop-t.invariant (c.in_ok-thread.ensures ∙ (λ i. fresh_thread (kinds i) (c.calls.ensures i) (c.cpu.ensures i))) c.in_ok-push.ensures.items

@@ -1,0 +1,28 @@
+use Rattle.std.proofs.Common.{◌≡◌, sym, subst}
+use Rattle.rt_model.specs.State.{State, start}
+use Rattle.rt_model.specs.laws.Shape.{IsOf}
+use Rattle.rt_model.specs.laws.Lawful.{IsLawful}
+use Rattle.rt_model.proofs.Starts.{IsLawful-start, IsOf-start}
+use Rattle.rt_core.specs.Core.{state_of}
+use Rattle.rt_core.proofs.machine.Core.new.Goals.{In_ok-threads}
+use Rattle.rt_core.proofs.machine.Core.new.Goals as goal
+
+-- the parts make the script's start state
+begun : (c : In_ok-threads) → state_of c.in_ok-new.field-0 c.in_ok-threads.field-0.items ≡ start c.args.script.now
+begun c = λ i. state_of (c.in_ok-new.ensures.start i) (c.in_ok-threads.ensures i)
+
+-- which is lawful
+lawful : (c : In_ok-threads) → IsLawful (state_of c.in_ok-new.field-0 c.in_ok-threads.field-0.items) 0
+lawful c = subst (λ (s : State). IsLawful s 0) (sym (begun c)) (IsLawful-start c.args.script.now c.in_ok-new.ensures.valid c.requires)
+
+pub invariant_of-result : goal.invariant_of-result
+invariant_of-result c = lawful (goal.at.invariant_of-result c).In_ok-threads
+
+pub returns-clause-script : goal.returns-clause-script
+returns-clause-script c = subst (IsOf c.args.script.now) (sym (begun (goal.at.returns-clause-script c).In_ok-threads)) (IsOf-start c.args.script.now)
+
+pub returns-clause-start : goal.returns-clause-start
+returns-clause-start c = λ i. record { state = begun (goal.at.returns-clause-start c).In_ok-threads i; made = 0 }
+
+pub returns-clause-lawful : goal.returns-clause-lawful
+returns-clause-lawful c = lawful (goal.at.returns-clause-lawful c).In_ok-threads

@@ -1,5 +1,5 @@
--- What an event leaves of what a task is blocked on.
-use Rattle.std.proofs.Common.{◌≡◌, ℕ, Bool, true, false, refl, ap, ◌∙◌, sym, Option}
+-- Which events change the rows of a lock and what a task is blocked on.
+use Rattle.std.proofs.Common.{◌≡◌, ℕ, Bool, true, false, refl, ap, ◌∙◌, Option, Some, None}
 use Rattle.std.specs.Prelude.{nat_eq}
 use Rattle.rt_base.specs.Kind.{spins}
 use Rattle.rt_base.specs.declared.id.LockId.{LockId}
@@ -7,42 +7,69 @@ use Rattle.rt_base.specs.declared.id.TaskId.{TaskId}
 use Rattle.rt_model.specs.declared.event.Event.{Event}
 use Rattle.rt_model.specs.declared.event_kind.EventKind.{EventKind}
 use Rattle.rt_model.specs.declared.event_kind.EventKind.TheVariants as kinds
-use Rattle.rt_model.specs.Parts.{OwnerPart, TaskPart, ThreadPart, kind_named}
-use Rattle.rt_model.specs.State.{State, shared, task_part, thread_part}
+use Rattle.rt_model.specs.Parts.{OwnerPart, TaskPart, ThreadPart, effective_of, kind_of, kind_named}
+use Rattle.rt_model.specs.State.{State, shared, owner_part, task_part, thread_part}
 use Rattle.rt_model.specs.Effect.{Around, around}
 use Rattle.rt_model.specs.Rules.{touched, effect}
-use Rattle.rt_model.specs.StateAfter.{effect_in, lock_left, state_after}
-use Rattle.rt_model.proofs.CellStepLemmas.{with_top-blocked, lock_woken-like}
-use Rattle.rt_model.proofs.PartsAfter.{OthersKeep, task-keeps, other-keeps}
+use Rattle.rt_model.specs.StateAfter.{state_after}
+use Rattle.rt_model.specs.laws.Shape.{IsShaped}
+use Rattle.rt_model.proofs.CellStepLemmas.{leave_queue-blocked, with_top-blocked, lock_woken-like}
+use Rattle.rt_model.proofs.Numbers.{other_number}
+use Rattle.rt_model.proofs.PartsAfter.{OthersKeep, lock-kept, task-keeps, other-keeps, own-made}
+use Rattle.rt_model.proofs.Within.{task_room}
+use Rattle.rt_model.proofs.events.Acquire.{IsTake}
+use Rattle.rt_model.proofs.events.Wait.{IsWait}
 
--- an event of this kind changes what its own task is blocked on
+-- a task comes into a queue, or leaves it
 abbrev pub moves : EventKind → Bool
 moves kinds.Take = true
 moves kinds.Wait = true
 moves _ = false
 
-blocked-own : (b : Option (LockId × ℕ)) (kind : EventKind) (e : Event) (th : ThreadPart) (found : Around) (lock : OwnerPart) → moves kind ≡ false
-    → (task : TaskPart) → task.blocked ≡ b → ((effect kind e th found).own lock task).blocked ≡ b
-blocked-own b kinds.Take e th found lock is task was = cc
-blocked-own b kinds.Wait e th found lock is task was = cc
-blocked-own b kinds.Give e th found lock is task was = with_top-blocked e.lock _ task ∙ was
-blocked-own b _ e th found lock is task was = was
+-- ---- told by the kind
 
--- and none what others are
+rows-left : (kind : EventKind) (e : Event) (th : ThreadPart) (found : Around) → moves kind ≡ false → (lock : OwnerPart) → ((effect kind e th found).lock lock).rows ≡ lock.rows
+rows-left kinds.Take e th found is lock = cc
+rows-left kinds.Wait e th found is lock = cc
+rows-left _ e th found is lock = refl
+
+blocked-own : (b : Option (LockId × ℕ)) (kind : EventKind) (e : Event) (th : ThreadPart) → moves kind ≡ false
+    → (found : Around) (lock : OwnerPart) (task : TaskPart) → task.blocked ≡ b → ((effect kind e th found).own lock task).blocked ≡ b
+blocked-own b kinds.Take e th is found lock task was = cc
+blocked-own b kinds.Wait e th is found lock task was = cc
+blocked-own b kinds.Give e th is found lock task was = with_top-blocked e.lock _ task ∙ was
+blocked-own b _ e th is found lock task was = was
+
 blocked-others : (b : Option (LockId × ℕ)) (kind : EventKind) (e : Event) (th : ThreadPart) (found : Around) (lock : OwnerPart) → OthersKeep (λ task. task.blocked ≡ b) (effect kind e th found) lock
 blocked-others b kinds.Wait e th found lock = record { owner = λ task was. with_top-blocked e.lock _ task ∙ was; other = λ task was. was; woken = λ task was. was }
 blocked-others b kinds.Give e th found lock = record { owner = λ task was. was; other = λ task was. was; woken = λ task was. (lock_woken-like (spins (kind_named th e.lock)) task).blocked ∙ was }
 blocked-others b _ e th found lock = record { owner = λ task was. was; other = λ task was. was; woken = λ task was. was }
 
-module _ (s : State) (e : Event) where
-  pub others-blocked : (b : Option (LockId × ℕ)) → OthersKeep (λ task. task.blocked ≡ b) (effect_in (shared s) (thread_part s e.task) e) (lock_left (shared s) (thread_part s e.task) e)
-  others-blocked b = blocked-others b e.kind e (thread_part s e.task) (around (shared s) (touched e.kind e)) (lock_left (shared s) (thread_part s e.task) e)
+-- ---- of an event
 
-  pub blocked-other : (u : TaskId) → nat_eq e.task.0 u.0 ≡ false → (task_part (state_after s e) u).blocked ≡ (task_part s u).blocked
-  blocked-other u ne = other-keeps (λ task. task.blocked ≡ (task_part s u).blocked) s e u ne refl (others-blocked (task_part s u).blocked)
+-- none changes what another task than its own is blocked on
+pub blocked-other : (s : State) (e : Event) (u : TaskId) → nat_eq e.task.0 u.0 ≡ false → (task_part (state_after s e) u).blocked ≡ (task_part s u).blocked
+blocked-other s e u ne = other-keeps (λ task. task.blocked ≡ (task_part s u).blocked) s e u ne refl (blocked-others (task_part s u).blocked e.kind e (thread_part s e.task))
 
-  pub blocked-kept : (u : TaskId) → moves e.kind ≡ false → (task_part (state_after s e) u).blocked ≡ (task_part s u).blocked
-  blocked-kept u is =
-      task-keeps (λ task. task.blocked ≡ (task_part s u).blocked) s e u refl
-      (blocked-own (task_part s u).blocked e.kind e (thread_part s e.task) (around (shared s) (touched e.kind e)) (lock_left (shared s) (thread_part s e.task) e) is)
-      (others-blocked (task_part s u).blocked)
+-- one that moves no task, that comes about as x
+pub rows-kept : (s : State) (e x : Event) (m : LockId) → e ≡ x → moves x.kind ≡ false → (owner_part (state_after s e) m).rows ≡ (owner_part s m).rows
+rows-kept s e x m is unmoved =
+    lock-kept (λ lock. lock.rows ≡ (owner_part s m).rows) s e x m is refl
+    (λ lock was. rows-left x.kind x (thread_part s x.task) (around (shared s) (touched x.kind x)) unmoved lock ∙ was)
+
+pub blocked-kept : (s : State) (e x : Event) (u : TaskId) → e ≡ x → moves x.kind ≡ false → (task_part (state_after s e) u).blocked ≡ (task_part s u).blocked
+blocked-kept s e x u is unmoved =
+    task-keeps (λ task. task.blocked ≡ (task_part s u).blocked) s e u refl
+    (blocked-own (task_part s u).blocked e.kind e (thread_part s e.task) (ap (λ (y : Event). moves y.kind) is ∙ unmoved)) (blocked-others (task_part s u).blocked e.kind e (thread_part s e.task))
+
+-- one that moves its task
+pub take-blocked : (s : State) (t : TaskId) (e : Event) (l : LockId) → IsShaped s → IsTake s t l e → (task_part (state_after s e) t).blocked ≡ None
+take-blocked s t e l shaped is =
+    own-made (λ v task. task.blocked ≡ None) s e _ t t is.event refl (task_room s t shaped is.at.task) (record { owner = λ task was. was; other = λ task was. was; woken = λ task was. was })
+    (leave_queue-blocked (spins (kind_of (thread_part s t) l)) (task_part s t)) (λ ne. absurd (other_number t.0 t.0 ne refl))
+
+pub wait-blocked : (s : State) (t : TaskId) (e : Event) (l : LockId) → IsShaped s → IsWait s t l e → (task_part (state_after s e) t).blocked ≡ Some (l, effective_of (task_part s t))
+wait-blocked s t e l shaped is =
+    let at : Option (LockId × ℕ) = Some (l, effective_of (task_part s t)) in
+    own-made (λ v task. task.blocked ≡ at) s e _ t t is.event refl (task_room s t shaped is.at.task)
+    (record { owner = λ task was. was; other = λ task was. was; woken = λ task was. was }) refl (λ ne. absurd (other_number t.0 t.0 ne refl))

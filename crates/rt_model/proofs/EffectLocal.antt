@@ -5,56 +5,30 @@ use Rattle.rt_base.specs.declared.id.LockId.{LockId}
 use Rattle.rt_base.specs.declared.id.TaskId.{TaskId}
 use Rattle.rt_model.specs.declared.event.Event.{Event}
 use Rattle.rt_model.specs.declared.obj.Obj.TheVariants as objects
-use Rattle.rt_model.specs.declared.reader_cell.ReaderCell.{ReaderCell}
 use Rattle.rt_model.specs.Parts.{OwnerPart, TaskPart, ThreadPart}
-use Rattle.rt_model.specs.State.{State, Shared, shared, lock_in, lock_at, task_in, task_at, readers_at, free_lock, no_readers, no_task, of_lock, of_readers, of_task, of_thread, owner_part, reader_part, task_part, thread_part}
-use Rattle.rt_model.specs.Effect.{Touched, Around, Effect, around}
+use Rattle.rt_model.specs.State.{State, shared, free_lock, no_readers, no_task, of_lock, of_readers, of_task, of_thread, owner_part, reader_part, task_part, thread_part}
+use Rattle.rt_model.specs.Effect.{Touched, Effect, around}
 use Rattle.rt_model.specs.Rules.{touched, effect as effect_of_kind}
 use Rattle.rt_model.specs.Footprint.{touches}
-use Rattle.rt_model.specs.StateAfter.{update, at_lock, at_task, effect_in, lock_left, tasks_left, shared_after, thread_after, state_after}
+use Rattle.rt_model.specs.StateAfter.{update, at_lock, at_task, effect_in, lock_left, tasks_left, thread_after, state_after}
 use Rattle.rt_model.specs.steps.Thread.{answered_with}
 use Rattle.rt_model.specs.laws.Local.{AgreeOn}
 use Rattle.rt_model.specs.laws.Shape.{SameSize}
 use Rattle.rt_model.proofs.Lists.{length-at_lock, length-at_task}
-use Rattle.rt_model.proofs.Touching.{touches-thread, touches-lock, touches-readers, touches-own, touches-owner, touches-other}
+use Rattle.rt_model.proofs.Touching.{touches-thread}
+use Rattle.rt_model.proofs.Alike.{Alike, same-around}
 
 -- ---- reading agreement
 
 pub agree-thread : (s other : State) (e : Event) (t : TaskId) → AgreeOn e s other → touches e (objects.Thread t) ≡ true → thread_part other t ≡ thread_part s t
 agree-thread s other e t agree at = let same : of_thread (thread_part other t) ≡ of_thread (thread_part s t) = agree (objects.Thread t) at in cc
 
-pub agree-lock : (s other : State) (e : Event) (l : LockId) → AgreeOn e s other → touches e (objects.OwnerPart l) ≡ true → owner_part other l ≡ owner_part s l
-agree-lock s other e l agree at = let same : of_lock (owner_part other l) ≡ of_lock (owner_part s l) = agree (objects.OwnerPart l) at in cc
-
-pub agree-readers : (s other : State) (e : Event) (l : LockId) → AgreeOn e s other → touches e (objects.ReaderPart l) ≡ true → reader_part other l ≡ reader_part s l
-agree-readers s other e l agree at = let same : of_readers (reader_part other l) ≡ of_readers (reader_part s l) = agree (objects.ReaderPart l) at in cc
-
-pub agree-task : (s other : State) (e : Event) (t : TaskId) → AgreeOn e s other → touches e (objects.Task t) ≡ true → task_part other t ≡ task_part s t
-agree-task s other e t agree at = let same : of_task (task_part other t) ≡ of_task (task_part s t) = agree (objects.Task t) at in cc
-
--- ---- what is around an event
-
-same-lock_at : (a b : Shared) (named : Option LockId) → ((l : LockId) → named ≡ Some l → lock_in b l ≡ lock_in a l) → lock_at b named ≡ lock_at a named
-same-lock_at a b None same = refl
-same-lock_at a b (Some l) same = same l refl
-
-same-readers_at : (a b : Shared) (named : Option LockId) → ((l : LockId) → named ≡ Some l → readers_at b (Some l) ≡ readers_at a (Some l)) → readers_at b named ≡ readers_at a named
-same-readers_at a b None same = refl
-same-readers_at a b (Some l) same = same l refl
-
-pub same-task_at : (a b : Shared) (named : Option TaskId) → ((u : TaskId) → named ≡ Some u → task_in b u ≡ task_in a u) → task_at b named ≡ task_at a named
-same-task_at a b None same = refl
-same-task_at a b (Some u) same = same u refl
-
-same-around : (e : Event) (s other : State) → AgreeOn e s other → around (shared other) (touched e.kind e) ≡ around (shared s) (touched e.kind e)
-same-around e s other agree =
-    let named = touched e.kind e in
-    let lock = same-lock_at (shared s) (shared other) named.lock (λ l is. agree-lock s other e l agree (touches-lock e l is)) in
-    let readers = same-readers_at (shared s) (shared other) named.readers (λ l is. agree-readers s other e l agree (touches-readers e l is)) in
-    let own = same-task_at (shared s) (shared other) named.own (λ u is. agree-task s other e u agree (touches-own e u is)) in
-    let owner = same-task_at (shared s) (shared other) named.owner (λ u is. agree-task s other e u agree (touches-owner e u is)) in
-    let others = same-task_at (shared s) (shared other) named.other (λ u is. agree-task s other e u agree (touches-other e u is)) in
-    λ i. record { lock = lock i; readers = readers i; own = own i; owner = owner i; other = others i }
+pub agree-shared : (s other : State) (e : Event) → AgreeOn e s other → Alike e (shared s) (shared other)
+agree-shared s other e agree = record {
+  lock = λ l at. let same : of_lock (owner_part other l) ≡ of_lock (owner_part s l) = agree (objects.OwnerPart l) at in cc;
+  readers = λ l at. let same : of_readers (reader_part other l) ≡ of_readers (reader_part s l) = agree (objects.ReaderPart l) at in cc;
+  task = λ u at. let same : of_task (task_part other u) ≡ of_task (task_part s u) = agree (objects.Task u) at in cc;
+}
 
 -- ---- lists that are alike at a place, each changed at one
 
@@ -94,8 +68,11 @@ module _ (s other : State) (e : Event) (size : SameSize s other) (agree : AgreeO
   thread : thread_part other e.task ≡ thread_part s e.task
   thread = agree-thread s other e e.task agree (touches-thread e)
 
+  before : Alike e (shared s) (shared other)
+  before = agree-shared s other e agree
+
   found : around (shared other) (touched e.kind e) ≡ around (shared s) (touched e.kind e)
-  found = same-around e s other agree
+  found = same-around e (shared s) (shared other) before
 
   same_effect : effect_in (shared other) (thread_part other e.task) e ≡ effect_in (shared s) (thread_part s e.task) e
   same_effect = λ i. effect_of_kind e.kind e (thread i) (found i)
@@ -118,20 +95,13 @@ module _ (s other : State) (e : Event) (size : SameSize s other) (agree : AgreeO
       (λ i. unwrap_or (slice_get (tasks_left (touched e.kind e) (same_effect i) (same_lock i) other.tasks) u.0) no_task)
       ∙ (alike-tasks u.0 s.tasks other.tasks (touched e.kind e) (effect_in (shared s) (thread_part s e.task) e) (lock_left (shared s) (thread_part s e.task) e) (record { long = size.tasks; same = is })).same
 
-  same_left : around (shared (state_after other e)) (touched e.kind e) ≡ around (shared (state_after s e)) (touched e.kind e)
-  same_left =
-      let named = touched e.kind e in
-      let a = shared (state_after s e) in
-      let b = shared (state_after other e) in
-      let lock = same-lock_at a b named.lock (λ l is. lock-left l (agree-lock s other e l agree (touches-lock e l is))) in
-      let readers = same-readers_at a b named.readers (λ l is. readers-left l (agree-readers s other e l agree (touches-readers e l is))) in
-      let own = same-task_at a b named.own (λ u is. task-left u (agree-task s other e u agree (touches-own e u is))) in
-      let owner = same-task_at a b named.owner (λ u is. task-left u (agree-task s other e u agree (touches-owner e u is))) in
-      let others = same-task_at a b named.other (λ u is. task-left u (agree-task s other e u agree (touches-other e u is))) in
-      λ i. record { lock = lock i; readers = readers i; own = own i; owner = owner i; other = others i }
+  alike_left : Alike e (shared (state_after s e)) (shared (state_after other e))
+  alike_left = record { lock = λ l at. lock-left l (before.lock l at); readers = λ l at. readers-left l (before.readers l at); task = λ u at. task-left u (before.task u at) }
 
   same_thread : thread_after (shared other) (thread_part other e.task) e ≡ thread_after (shared s) (thread_part s e.task) e
-  same_thread = λ i. answered_with ((same_effect i).thread (same_left i) (thread i)) e.reply
+  same_thread =
+      let left = same-around e (shared (state_after s e)) (shared (state_after other e)) alike_left in
+      λ i. answered_with ((same_effect i).thread (left i) (thread i)) e.reply
 
   thread-left : (u : TaskId) → thread_part other u ≡ thread_part s u → thread_part (state_after other e) u ≡ thread_part (state_after s e) u
   thread-left u is =
@@ -141,7 +111,7 @@ module _ (s other : State) (e : Event) (size : SameSize s other) (agree : AgreeO
 
   -- states that agree on what an event touches agree on it afterwards
   pub effect : AgreeOn e (state_after s e) (state_after other e)
-  effect (objects.OwnerPart l) at = ap of_lock (lock-left l (agree-lock s other e l agree at))
-  effect (objects.ReaderPart l) at = ap of_readers (readers-left l (agree-readers s other e l agree at))
-  effect (objects.Task u) at = ap of_task (task-left u (agree-task s other e u agree at))
+  effect (objects.OwnerPart l) at = ap of_lock (alike_left.lock l at)
+  effect (objects.ReaderPart l) at = ap of_readers (alike_left.readers l at)
+  effect (objects.Task u) at = ap of_task (alike_left.task u at)
   effect (objects.Thread u) at = ap of_thread (thread-left u (agree-thread s other e u agree at))

@@ -1,6 +1,6 @@
 -- An event leaves every object that it doesn't touch.
 use Rattle.std.proofs.lemmas.Bool.{or_parts}
-use Rattle.std.proofs.Common.{◌≡◌, ◌≢◌, ℕ, Bool, false, List, [], refl, ap, ◌∙◌, Option, Some, None, unwrap_or, sym, IfSome}
+use Rattle.std.proofs.Common.{◌≡◌, ◌≢◌, false, List, [], refl, ap, ◌∙◌, Option, Some, None, unwrap_or, sym, IfSome}
 use Rattle.std.specs.Prelude.{slice_get, nat_eq}
 use Rattle.std.specs.List.{list_any}
 use Rattle.rt_base.specs.declared.id.LockId.{LockId}

@@ -1,5 +1,5 @@
 -- A next event of a lawful state leaves a lawful state.
-use Rattle.std.proofs.Common.{ℕ, suc, ◌<◌, length}
+use Rattle.std.proofs.Common.{ℕ, suc}
 use Rattle.rt_base.specs.declared.id.TaskId.{TaskId}
 use Rattle.rt_model.specs.declared.event.Event.{Event}
 use Rattle.rt_model.specs.State.{State}

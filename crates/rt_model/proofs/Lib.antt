@@ -11,6 +11,7 @@ pub mod events
 pub mod NextEvents
 pub mod PartsAfter
 pub mod Blocked
+pub mod TaskStates
 -- what an event reads and writes
 pub mod Frame
 pub mod EffectLocal

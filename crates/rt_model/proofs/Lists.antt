@@ -120,7 +120,7 @@ at_task-index xs o t x f is lt = sym (ap (λ (p : Option TaskId). at_task xs p f
 
 -- ---- lists that are made, and lent
 
--- one more element of a front, seen by f
+-- one more element of a prefix, seen by f
 pub map-take-more : {X Y : Type 0} (f : X → Y) (xs : List X) (i : ℕ) (d : X) → i < length xs → map f (take (suc i) xs) ≡ map f (take i xs) ++ f (unwrap_or (slice_get xs i) d) ∷ []
 map-take-more f [] i d lt = absurd (omega arith)
 map-take-more f (x ∷ xs) zero d lt = refl

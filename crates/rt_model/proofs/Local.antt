@@ -21,9 +21,9 @@ use Rattle.rt_model.specs.events.Wait.{wait_event, slow_event, queued_event}
 use Rattle.rt_model.specs.events.Own.{own_answer}
 use Rattle.rt_model.specs.NextEvent.{answered_or, first_event, later_event, event_in, event_of, next_of, next_event}
 use Rattle.rt_model.specs.laws.Local.{AgreeOn}
-use Rattle.rt_model.proofs.EffectLocal.{agree-thread, agree-lock, agree-task}
+use Rattle.rt_model.proofs.EffectLocal.{agree-thread, agree-shared}
 use Rattle.rt_model.proofs.Touching.{touches-thread}
-use Rattle.rt_model.proofs.Alike.{Alike, GivesAlike, gives_alike}
+use Rattle.rt_model.proofs.Alike.{GivesAlike, gives_alike}
 use Rattle.rt_model.proofs.events.Acquire.{same-acquire}
 use Rattle.rt_model.proofs.events.Release.{same-release}
 use Rattle.rt_model.proofs.events.Wait.{same-slow, same-queued}
@@ -97,7 +97,7 @@ local s other t e is agree =
     let own : e.task ≡ t = task-next_event s t e is in
     let same : thread_part other t ≡ thread_part s t = subst (λ (u : TaskId). thread_part other u ≡ thread_part s u) own (agree-thread s other e e.task agree (touches-thread e)) in
     ap (next_of (shared other) t) same
-    ∙ local-of t (thread_part s t) (call_of (thread_part s t)) (shared s) (shared other) e is (record { lock = λ l at. agree-lock s other e l agree at; task = λ u at. agree-task s other e u agree at })
+    ∙ local-of t (thread_part s t) (call_of (thread_part s t)) (shared s) (shared other) e is (agree-shared s other e agree)
 
 -- ---- none
 

@@ -1,5 +1,5 @@
 -- What a next event names is there.
-use Rattle.std.proofs.Common.{◌≡◌, ℕ, ◌<◌, Bool, true, false, cond, List, length, sym, subst, Option, Some, None, IfSome, All}
+use Rattle.std.proofs.Common.{ℕ, ◌<◌, Bool, true, false, cond, List, length, sym, subst, Option, Some, None, IfSome, All}
 use Rattle.std.specs.Prelude.{nat_eq, option_map}
 use Rattle.rt_base.specs.declared.call.Call.{Call}
 use Rattle.rt_base.specs.declared.call.Call.TheVariants as calls

@@ -1,7 +1,7 @@
 -- The parts of the state that an event leaves, each read at its number.
 use Rattle.std.proofs.lemmas.Option.{unwrap_or-slice_get}
 use Rattle.std.proofs.lemmas.List.{get_or-set_same, get_or-set_other}
-use Rattle.std.proofs.Common.{◌≡◌, ◌⊎◌, inl, inr, ℕ, zero, suc, ◌<◌, Bool, true, false, List, [], ◌∷◌, length, refl, sym, ap, ◌∙◌, subst, arith, Option, Some, None, IfSome, unwrap_or, get_or}
+use Rattle.std.proofs.Common.{◌≡◌, ◌⊎◌, inl, inr, ℕ, zero, suc, ◌<◌, Bool, true, false, List, [], ◌∷◌, length, refl, sym, ap, ◌∙◌, subst, arith, Option, Some, None, IfSome, unwrap_or}
 use Rattle.std.specs.Prelude.{slice_get, nat_eq, slice_set}
 use Rattle.rt_base.specs.declared.id.LockId.{LockId}
 use Rattle.rt_base.specs.declared.id.TaskId.{TaskId}
@@ -15,7 +15,7 @@ use Rattle.rt_model.specs.Rules.{touched, effect}
 use Rattle.rt_model.specs.laws.Owners.{owned_by}
 use Rattle.rt_model.specs.StateAfter.{update, at_lock, at_task, effect_in, lock_left, thread_after, state_after}
 use Rattle.rt_model.proofs.Lists.{update-other, at_lock-none, length-at_task}
-use Rattle.rt_model.proofs.Numbers.{same_lock, same_task, other_number, at_each_lock, at_each_task}
+use Rattle.rt_model.proofs.Numbers.{same_task, other_number, at_each_lock, at_each_task}
 
 -- an element of a list with one written
 pub read-set_same : {X : Type 0} (xs : List X) (i : ℕ) (x d : X) → i < length xs → unwrap_or (slice_get (slice_set xs i x) i) d ≡ x
@@ -34,45 +34,22 @@ read-update (x ∷ xs) (suc i) f d lt = read-update xs i f d (omega (arith, lt))
 pub read-update_other : {X : Type 0} (xs : List X) (i j : ℕ) (f : X → X) (d : X) → nat_eq i j ≡ false → unwrap_or (slice_get (update xs i f) j) d ≡ unwrap_or (slice_get xs j) d
 read-update_other {X} xs i j f d ne = ap (λ (o : Option X). unwrap_or o d) (update-other xs i j f (λ same. other_number i j ne same))
 
--- ---- what holds of the parts that an event changes, and of all others
+-- ---- an element of a list, with one updated
 
--- the lock that it touches is as the effect says, and every other as it was
-pub lock-left : (P : LockId → OwnerPart → Type 0) (s : State) (e : Event) (l m : LockId) → (touched e.kind e).lock ≡ Some l → l.0 < length s.locks
-    → P l ((effect_in (shared s) (thread_part s e.task) e).lock (owner_part s l)) → (nat_eq l.0 m.0 ≡ false → P m (owner_part s m)) → P m (owner_part (state_after s e) m)
-lock-left P s e l m named lt here there = at_each_lock (λ k. P k (owner_part (state_after s e) k)) l m (subst (P l) (sym changed) here) (λ ne. subst (P m) (sym (kept ne)) (there ne))
-  where
-    f : OwnerPart → OwnerPart
-    f = (effect_in (shared s) (thread_part s e.task) e).lock
+pub kept-at : {X : Type 0} (P : X → Type 0) (xs : List X) (i j : ℕ) (f : X → X) (d : X) → P (unwrap_or (slice_get xs j) d) → ((x : X) → P x → P (f x)) → P (unwrap_or (slice_get (update xs i f) j) d)
+kept-at P [] i j f d was keeps = was
+kept-at P (x ∷ xs) zero zero f d was keeps = keeps x was
+kept-at P (x ∷ xs) zero (suc j) f d was keeps = was
+kept-at P (x ∷ xs) (suc i) zero f d was keeps = was
+kept-at P (x ∷ xs) (suc i) (suc j) f d was keeps = kept-at P xs i j f d was keeps
 
-    at : Option LockId → LockId → OwnerPart
-    at o k = owner_part (record s { locks = at_lock s.locks o f }) k
+-- of a task, in a slot that keeps what holds
+pub slot-keeps : (P : TaskPart → Type 0) (xs : List TaskPart) (named : Option TaskId) (u : TaskId) (f : TaskPart → TaskPart) → P (unwrap_or (slice_get xs u.0) no_task) → ((task : TaskPart) → P task → P (f task))
+    → P (unwrap_or (slice_get (at_task xs named f) u.0) no_task)
+slot-keeps P xs None u f was keeps = was
+slot-keeps P xs (Some v) u f was keeps = kept-at P xs v.0 u.0 f no_task was keeps
 
-    changed : owner_part (state_after s e) l ≡ f (owner_part s l)
-    changed = ap (λ (o : Option LockId). at o l) named ∙ read-update s.locks l.0 f free_lock lt
-
-    kept : nat_eq l.0 m.0 ≡ false → owner_part (state_after s e) m ≡ owner_part s m
-    kept ne = ap (λ (o : Option LockId). at o m) named ∙ read-update_other s.locks l.0 m.0 f free_lock ne
-
--- where it touches none, or leaves each as it was, every lock is as it was
-pub locks-kept : (s : State) (e : Event) (m : LockId) → ((lock : OwnerPart) → (effect_in (shared s) (thread_part s e.task) e).lock lock ≡ lock) → owner_part (state_after s e) m ≡ owner_part s m
-locks-kept s e m same = ap (λ (xs : List OwnerPart). owner_part (record s { locks = xs }) m) (at_lock-none s.locks (touched e.kind e).lock _ same)
-
--- its own thread is as the effect and the answer say
-pub thread-own : (s : State) (e x : Event) → e ≡ x → x.task.0 < length s.threads → thread_part (state_after s e) x.task ≡ thread_after (shared s) (thread_part s x.task) x
-thread-own s e x is lt =
-    ap (λ (y : Event). thread_part (state_after s y) x.task) is
-    ∙ read-update s.threads x.task.0 (λ old. thread_after (shared s) (thread_part s x.task) x) (thread_part (record s { threads = [] }) x.task) lt
-
--- and every other as it was
-pub thread-other : (s : State) (e : Event) (u : TaskId) → nat_eq e.task.0 u.0 ≡ false → thread_part (state_after s e) u ≡ thread_part s u
-thread-other s e u ne = read-update_other s.threads e.task.0 u.0 (λ old. thread_after (shared s) (thread_part s e.task) e) (thread_part (record s { threads = [] }) u) ne
-
-pub thread-left : (P : TaskId → ThreadPart → Type 0) (s : State) (e : Event) (u : TaskId) → e.task.0 < length s.threads
-    → P e.task (thread_after (shared s) (thread_part s e.task) e) → (nat_eq e.task.0 u.0 ≡ false → P u (thread_part s u)) → P u (thread_part (state_after s e) u)
-thread-left P s e u lt own others =
-    at_each_task (λ v. P v (thread_part (state_after s e) v)) e.task u (subst (P e.task) (sym (thread-own s e e refl lt)) own) (λ ne. subst (P u) (sym (thread-other s e u ne)) (others ne))
-
--- what holds of a task in one slot after another
+-- and in one that changes the task that it names
 pub slot-left : (P : TaskPart → Type 0) (xs : List TaskPart) (named : Option TaskId) (u : TaskId) (f : TaskPart → TaskPart) → IfSome named (λ v. v.0 < length xs)
     → (owned_by named u ≡ true → P (f (unwrap_or (slice_get xs u.0) no_task))) → (owned_by named u ≡ false → P (unwrap_or (slice_get xs u.0) no_task)) → P (unwrap_or (slice_get (at_task xs named f) u.0) no_task)
 slot-left P xs None u f lt here there = there refl
@@ -84,50 +61,90 @@ slot-left P xs (Some v) u f lt here there = by_test (nat_eq v.0 u.0) refl
         subst P (sym (read-update xs u.0 f no_task (subst (λ (w : TaskId). w.0 < length xs) same lt)) ∙ ap (λ (w : TaskId). unwrap_or (slice_get (update xs w.0 f) u.0) no_task) (sym same)) (here is)
     by_test false is = subst P (sym (read-update_other xs v.0 u.0 f no_task is)) (there is)
 
--- ---- what each change keeps
+-- ---- locks, of an event that comes about as x
 
-pub kept-at : {X : Type 0} (P : X → Type 0) (xs : List X) (i j : ℕ) (f : X → X) (d : X) → P (unwrap_or (slice_get xs j) d) → ((x : X) → P x → P (f x)) → P (unwrap_or (slice_get (update xs i f) j) d)
-kept-at P [] i j f d was keeps = was
-kept-at P (x ∷ xs) zero zero f d was keeps = keeps x was
-kept-at P (x ∷ xs) zero (suc j) f d was keeps = was
-kept-at P (x ∷ xs) (suc i) zero f d was keeps = was
-kept-at P (x ∷ xs) (suc i) (suc j) f d was keeps = kept-at P xs i j f d was keeps
-
--- of a lock
-pub lock-keeps : (P : OwnerPart → Type 0) (s : State) (e : Event) (m : LockId) → P (owner_part s m) → ((lock : OwnerPart) → P lock → P ((effect_in (shared s) (thread_part s e.task) e).lock lock)) → P (owner_part (state_after s e) m)
-lock-keeps P s e m was keeps = by_name (touched e.kind e).lock
+-- the lock that it touches is as the effect says, and every other as it was
+pub lock-made : (P : LockId → OwnerPart → Type 0) (s : State) (e x : Event) (l m : LockId) → e ≡ x → (touched x.kind x).lock ≡ Some l → l.0 < length s.locks
+    → P l ((effect_in (shared s) (thread_part s x.task) x).lock (owner_part s l)) → (nat_eq l.0 m.0 ≡ false → P m (owner_part s m)) → P m (owner_part (state_after s e) m)
+lock-made P s e x l m is named lt here there =
+    subst (λ (y : Event). P m (owner_part (state_after s y) m)) (sym is)
+    (at_each_lock (λ k. P k (owner_part (state_after s x) k)) l m (subst (P l) (sym changed) here) (λ ne. subst (P m) (sym (kept ne)) (there ne)))
   where
     f : OwnerPart → OwnerPart
-    f = (effect_in (shared s) (thread_part s e.task) e).lock
+    f = (effect_in (shared s) (thread_part s x.task) x).lock
+
+    at : Option LockId → LockId → OwnerPart
+    at o k = owner_part (record s { locks = at_lock s.locks o f }) k
+
+    changed : owner_part (state_after s x) l ≡ f (owner_part s l)
+    changed = ap (λ (o : Option LockId). at o l) named ∙ read-update s.locks l.0 f free_lock lt
+
+    kept : nat_eq l.0 m.0 ≡ false → owner_part (state_after s x) m ≡ owner_part s m
+    kept ne = ap (λ (o : Option LockId). at o m) named ∙ read-update_other s.locks l.0 m.0 f free_lock ne
+
+-- what the effect keeps of any lock
+pub lock-kept : (P : OwnerPart → Type 0) (s : State) (e x : Event) (m : LockId) → e ≡ x → P (owner_part s m) → ((lock : OwnerPart) → P lock → P ((effect_in (shared s) (thread_part s x.task) x).lock lock)) → P (owner_part (state_after s e) m)
+lock-kept P s e x m is was keeps = subst (λ (y : Event). P (owner_part (state_after s y) m)) (sym is) (by_name (touched x.kind x).lock)
+  where
+    f : OwnerPart → OwnerPart
+    f = (effect_in (shared s) (thread_part s x.task) x).lock
 
     by_name : (o : Option LockId) → P (owner_part (record s { locks = at_lock s.locks o f }) m)
     by_name None = was
     by_name (Some l) = kept-at P s.locks l.0 m.0 f free_lock was keeps
 
--- of a task, slot by slot
-pub slot-keeps : (P : TaskPart → Type 0) (xs : List TaskPart) (named : Option TaskId) (u : TaskId) (f : TaskPart → TaskPart) → P (unwrap_or (slice_get xs u.0) no_task) → ((task : TaskPart) → P task → P (f task))
-    → P (unwrap_or (slice_get (at_task xs named f) u.0) no_task)
-slot-keeps P xs None u f was keeps = was
-slot-keeps P xs (Some v) u f was keeps = kept-at P xs v.0 u.0 f no_task was keeps
+-- where it touches none, or leaves each as it was, every lock is as it was
+pub locks-kept : (s : State) (e : Event) (m : LockId) → ((lock : OwnerPart) → (effect_in (shared s) (thread_part s e.task) e).lock lock ≡ lock) → owner_part (state_after s e) m ≡ owner_part s m
+locks-kept s e m same = ap (λ (xs : List OwnerPart). owner_part (record s { locks = xs }) m) (at_lock-none s.locks (touched e.kind e).lock _ same)
 
--- the slots but that of the event's own task
+-- ---- threads
+
+-- its own thread is as the effect and the answer say
+pub thread-own : (s : State) (e x : Event) → e ≡ x → x.task.0 < length s.threads → thread_part (state_after s e) x.task ≡ thread_after (shared s) (thread_part s x.task) x
+thread-own s e x is lt =
+    ap (λ (y : Event). thread_part (state_after s y) x.task) is
+    ∙ read-update s.threads x.task.0 (λ old. thread_after (shared s) (thread_part s x.task) x) (thread_part (record s { threads = [] }) x.task) lt
+
+-- and every other as it was
+pub thread-other : (s : State) (e : Event) (u : TaskId) → nat_eq e.task.0 u.0 ≡ false → thread_part (state_after s e) u ≡ thread_part s u
+thread-other s e u ne = read-update_other s.threads e.task.0 u.0 (λ old. thread_after (shared s) (thread_part s e.task) e) (thread_part (record s { threads = [] }) u) ne
+
+pub thread-made : (P : TaskId → ThreadPart → Type 0) (s : State) (e x : Event) (u : TaskId) → e ≡ x → x.task.0 < length s.threads
+    → P x.task (thread_after (shared s) (thread_part s x.task) x) → (nat_eq x.task.0 u.0 ≡ false → P u (thread_part s u)) → P u (thread_part (state_after s e) u)
+thread-made P s e x u is lt own others =
+    subst (λ (y : Event). P u (thread_part (state_after s y) u)) (sym is)
+    (at_each_task (λ v. P v (thread_part (state_after s x) v)) x.task u (subst (P x.task) (sym (thread-own s x x refl lt)) own) (λ ne. subst (P u) (sym (thread-other s x u ne)) (others ne)))
+
+-- an effect leaves all of a thread but its phase
+pub thread-phase : (kind : EventKind) (e : Event) (th : ThreadPart) (found left : Around) (old : ThreadPart) → (effect kind e th found).thread left old ≡ record old { phase = ((effect kind e th found).thread left old).phase }
+thread-phase kinds.Mark e th found left old = refl
+thread-phase _ e th found left old = refl
+
+-- ---- tasks, slot by slot
+
+-- the slots but that of the event's own task keep what holds
 pub record OthersKeep (P : TaskPart → Type 0) (f : Effect) (lock : OwnerPart) : Type 0 where
   pub owner : (task : TaskPart) → P task → P (f.owner lock task)
   pub other : (task : TaskPart) → P task → P (f.other lock task)
   pub woken : (task : TaskPart) → P task → P (f.woken lock task)
 
-behind-own : (P : TaskPart → Type 0) (s : State) (e : Event) (u : TaskId) → OthersKeep P (effect_in (shared s) (thread_part s e.task) e) (lock_left (shared s) (thread_part s e.task) e)
+after-own : (P : TaskPart → Type 0) (s : State) (e : Event) (u : TaskId) → OthersKeep P (effect_in (shared s) (thread_part s e.task) e) (lock_left (shared s) (thread_part s e.task) e)
     → P (unwrap_or (slice_get (at_task s.tasks (touched e.kind e).own ((effect_in (shared s) (thread_part s e.task) e).own (lock_left (shared s) (thread_part s e.task) e))) u.0) no_task) → P (task_part (state_after s e) u)
-behind-own P s e u keep was =
+after-own P s e u keep was =
     let f = effect_in (shared s) (thread_part s e.task) e in
     let lock = lock_left (shared s) (thread_part s e.task) e in
     let named = touched e.kind e in
     slot-keeps P _ named.woken u (f.woken lock) (slot-keeps P _ named.other u (f.other lock) (slot-keeps P _ named.owner u (f.owner lock) was keep.owner) keep.other) keep.woken
 
+-- ---- what an event of a kind keeps of a task, whatever it finds
+
 pub task-keeps : (P : TaskPart → Type 0) (s : State) (e : Event) (u : TaskId) → P (task_part s u)
-    → ((task : TaskPart) → P task → P ((effect_in (shared s) (thread_part s e.task) e).own (lock_left (shared s) (thread_part s e.task) e) task))
-    → OthersKeep P (effect_in (shared s) (thread_part s e.task) e) (lock_left (shared s) (thread_part s e.task) e) → P (task_part (state_after s e) u)
-task-keeps P s e u was own keep = behind-own P s e u keep (slot-keeps P s.tasks (touched e.kind e).own u _ was own)
+    → ((found : Around) (lock : OwnerPart) (task : TaskPart) → P task → P ((effect e.kind e (thread_part s e.task) found).own lock task))
+    → ((found : Around) (lock : OwnerPart) → OthersKeep P (effect e.kind e (thread_part s e.task) found) lock) → P (task_part (state_after s e) u)
+task-keeps P s e u was own others =
+    let found = around (shared s) (touched e.kind e) in
+    let lock = lock_left (shared s) (thread_part s e.task) e in
+    after-own P s e u (others found lock) (slot-keeps P s.tasks (touched e.kind e).own u _ was (own found lock))
 
 -- the slot of its own task has that task, or changes nothing
 own-slot : (kind : EventKind) (e : Event) (th : ThreadPart) (found : Around) (lock : OwnerPart) → ((touched kind e).own ≡ Some e.task) ⊎ ((task : TaskPart) → (effect kind e th found).own lock task ≡ task)
@@ -139,11 +156,17 @@ own-slot _ e th found lock = inr (λ task. refl)
 
 -- so what the other slots keep is kept of every other task
 pub other-keeps : (P : TaskPart → Type 0) (s : State) (e : Event) (u : TaskId) → nat_eq e.task.0 u.0 ≡ false → P (task_part s u)
-    → OthersKeep P (effect_in (shared s) (thread_part s e.task) e) (lock_left (shared s) (thread_part s e.task) e) → P (task_part (state_after s e) u)
-other-keeps P s e u ne was keep = behind-own P s e u keep (by_slot (own-slot e.kind e (thread_part s e.task) (around (shared s) (touched e.kind e)) (lock_left (shared s) (thread_part s e.task) e)))
+    → ((found : Around) (lock : OwnerPart) → OthersKeep P (effect e.kind e (thread_part s e.task) found) lock) → P (task_part (state_after s e) u)
+other-keeps P s e u ne was others = after-own P s e u (others found lock) (by_slot (own-slot e.kind e (thread_part s e.task) found lock))
   where
+    found : Around
+    found = around (shared s) (touched e.kind e)
+
+    lock : OwnerPart
+    lock = lock_left (shared s) (thread_part s e.task) e
+
     f : TaskPart → TaskPart
-    f = (effect_in (shared s) (thread_part s e.task) e).own (lock_left (shared s) (thread_part s e.task) e)
+    f = (effect_in (shared s) (thread_part s e.task) e).own lock
 
     Read : Option TaskId → Type 0
     Read named = P (unwrap_or (slice_get (at_task s.tasks named f) u.0) no_task)
@@ -152,14 +175,18 @@ other-keeps P s e u ne was keep = behind-own P s e u keep (by_slot (own-slot e.k
     by_slot (inl named) = subst Read (sym named) (subst P (sym (read-update_other s.tasks e.task.0 u.0 f no_task ne)) was)
     by_slot (inr same) = slot-keeps P s.tasks (touched e.kind e).own u f was (λ task is. subst P (sym (same task)) is)
 
+-- ---- what an event that comes about as x leaves of a task
+
 -- its own task is as the effect says, and every other as it was
-pub own-left : (P : TaskId → TaskPart → Type 0) (s : State) (e : Event) (t u : TaskId) → (touched e.kind e).own ≡ Some t → t.0 < length s.tasks
-    → OthersKeep (P u) (effect_in (shared s) (thread_part s e.task) e) (lock_left (shared s) (thread_part s e.task) e)
-    → P t ((effect_in (shared s) (thread_part s e.task) e).own (lock_left (shared s) (thread_part s e.task) e) (task_part s t)) → (nat_eq t.0 u.0 ≡ false → P u (task_part s u)) → P u (task_part (state_after s e) u)
-own-left P s e t u named lt keep own others = behind-own (P u) s e u keep (subst (λ (o : Option TaskId). P u (unwrap_or (slice_get (at_task s.tasks o f) u.0) no_task)) (sym named) (at_each_task Read t u changed kept))
+pub own-made : (P : TaskId → TaskPart → Type 0) (s : State) (e x : Event) (t u : TaskId) → e ≡ x → (touched x.kind x).own ≡ Some t → t.0 < length s.tasks
+    → OthersKeep (P u) (effect_in (shared s) (thread_part s x.task) x) (lock_left (shared s) (thread_part s x.task) x)
+    → P t ((effect_in (shared s) (thread_part s x.task) x).own (lock_left (shared s) (thread_part s x.task) x) (task_part s t)) → (nat_eq t.0 u.0 ≡ false → P u (task_part s u)) → P u (task_part (state_after s e) u)
+own-made P s e x t u is named lt keep own others =
+    subst (λ (y : Event). P u (task_part (state_after s y) u)) (sym is)
+    (after-own (P u) s x u keep (subst (λ (o : Option TaskId). P u (unwrap_or (slice_get (at_task s.tasks o f) u.0) no_task)) (sym named) (at_each_task Read t u changed kept)))
   where
     f : TaskPart → TaskPart
-    f = (effect_in (shared s) (thread_part s e.task) e).own (lock_left (shared s) (thread_part s e.task) e)
+    f = (effect_in (shared s) (thread_part s x.task) x).own (lock_left (shared s) (thread_part s x.task) x)
 
     Read : TaskId → Type 0
     Read v = P v (unwrap_or (slice_get (update s.tasks t.0 f) v.0) no_task)
@@ -170,47 +197,20 @@ own-left P s e t u named lt keep own others = behind-own (P u) s e u keep (subst
     kept : nat_eq t.0 u.0 ≡ false → Read u
     kept ne = subst (P u) (sym (read-update_other s.tasks t.0 u.0 f no_task ne)) (others ne)
 
--- ---- the same of an event that comes about as x
-
-pub lock-made : (P : LockId → OwnerPart → Type 0) (s : State) (e x : Event) (l m : LockId) → e ≡ x → (touched x.kind x).lock ≡ Some l → l.0 < length s.locks
-    → P l ((effect_in (shared s) (thread_part s x.task) x).lock (owner_part s l)) → (nat_eq l.0 m.0 ≡ false → P m (owner_part s m)) → P m (owner_part (state_after s e) m)
-lock-made P s e x l m is named lt here there = subst (λ (y : Event). P m (owner_part (state_after s y) m)) (sym is) (lock-left P s x l m named lt here there)
-
-pub lock-kept : (P : OwnerPart → Type 0) (s : State) (e x : Event) (m : LockId) → e ≡ x → P (owner_part s m) → ((lock : OwnerPart) → P lock → P ((effect_in (shared s) (thread_part s x.task) x).lock lock)) → P (owner_part (state_after s e) m)
-lock-kept P s e x m is was keeps = subst (λ (y : Event). P (owner_part (state_after s y) m)) (sym is) (lock-keeps P s x m was keeps)
-
-pub task-kept : (P : TaskPart → Type 0) (s : State) (e x : Event) (u : TaskId) → e ≡ x → P (task_part s u)
-    → ((task : TaskPart) → P task → P ((effect_in (shared s) (thread_part s x.task) x).own (lock_left (shared s) (thread_part s x.task) x) task))
-    → OthersKeep P (effect_in (shared s) (thread_part s x.task) x) (lock_left (shared s) (thread_part s x.task) x) → P (task_part (state_after s e) u)
-task-kept P s e x u is was own keep = subst (λ (y : Event). P (task_part (state_after s y) u)) (sym is) (task-keeps P s x u was own keep)
-
-pub own-made : (P : TaskId → TaskPart → Type 0) (s : State) (e x : Event) (t u : TaskId) → e ≡ x → (touched x.kind x).own ≡ Some t → t.0 < length s.tasks
-    → OthersKeep (P u) (effect_in (shared s) (thread_part s x.task) x) (lock_left (shared s) (thread_part s x.task) x)
-    → P t ((effect_in (shared s) (thread_part s x.task) x).own (lock_left (shared s) (thread_part s x.task) x) (task_part s t)) → (nat_eq t.0 u.0 ≡ false → P u (task_part s u)) → P u (task_part (state_after s e) u)
-own-made P s e x t u is named lt keep own others = subst (λ (y : Event). P u (task_part (state_after s y) u)) (sym is) (own-left P s x t u named lt keep own others)
-
--- ---- where the lock's owner changes, behind the event's own task
-
-pub owner-left : (P mid : TaskPart → Type 0) (s : State) (e : Event) (u : TaskId) → IfSome (touched e.kind e).owner (λ v. v.0 < length s.tasks) → mid (task_part s u)
-    → ((task : TaskPart) → mid task → mid ((effect_in (shared s) (thread_part s e.task) e).own (lock_left (shared s) (thread_part s e.task) e) task))
-    → ((task : TaskPart) → mid task → owned_by (touched e.kind e).owner u ≡ true → P ((effect_in (shared s) (thread_part s e.task) e).owner (lock_left (shared s) (thread_part s e.task) e) task))
-    → ((task : TaskPart) → mid task → owned_by (touched e.kind e).owner u ≡ false → P task)
-    → ((task : TaskPart) → P task → P ((effect_in (shared s) (thread_part s e.task) e).other (lock_left (shared s) (thread_part s e.task) e) task))
-    → ((task : TaskPart) → P task → P ((effect_in (shared s) (thread_part s e.task) e).woken (lock_left (shared s) (thread_part s e.task) e) task)) → P (task_part (state_after s e) u)
-owner-left P mid s e u lt was own mine others other woken =
-    let f = effect_in (shared s) (thread_part s e.task) e in
-    let lock = lock_left (shared s) (thread_part s e.task) e in
-    let named = touched e.kind e in
-    let first = at_task s.tasks named.own (f.own lock) in
-    let at_mid = slot-keeps mid s.tasks named.own u (f.own lock) was own in
-    let long : length first ≡ length s.tasks = length-at_task s.tasks named.own (f.own lock) in
-    slot-keeps P _ named.woken u (f.woken lock) (slot-keeps P _ named.other u (f.other lock)
-    (slot-left P first named.owner u (f.owner lock) (subst (λ (n : ℕ). IfSome named.owner (λ v. v.0 < n)) (sym long) lt) (mine _ at_mid) (others _ at_mid)) other) woken
-
+-- the lock's owner changes after the event's own task
 pub owner-made : (P mid : TaskPart → Type 0) (s : State) (e x : Event) (u : TaskId) → e ≡ x → IfSome (touched x.kind x).owner (λ v. v.0 < length s.tasks) → mid (task_part s u)
     → ((task : TaskPart) → mid task → mid ((effect_in (shared s) (thread_part s x.task) x).own (lock_left (shared s) (thread_part s x.task) x) task))
     → ((task : TaskPart) → mid task → owned_by (touched x.kind x).owner u ≡ true → P ((effect_in (shared s) (thread_part s x.task) x).owner (lock_left (shared s) (thread_part s x.task) x) task))
     → ((task : TaskPart) → mid task → owned_by (touched x.kind x).owner u ≡ false → P task)
     → ((task : TaskPart) → P task → P ((effect_in (shared s) (thread_part s x.task) x).other (lock_left (shared s) (thread_part s x.task) x) task))
     → ((task : TaskPart) → P task → P ((effect_in (shared s) (thread_part s x.task) x).woken (lock_left (shared s) (thread_part s x.task) x) task)) → P (task_part (state_after s e) u)
-owner-made P mid s e x u is lt was own mine others other woken = subst (λ (y : Event). P (task_part (state_after s y) u)) (sym is) (owner-left P mid s x u lt was own mine others other woken)
+owner-made P mid s e x u is lt was own mine others other woken =
+    let f = effect_in (shared s) (thread_part s x.task) x in
+    let lock = lock_left (shared s) (thread_part s x.task) x in
+    let named = touched x.kind x in
+    let first = at_task s.tasks named.own (f.own lock) in
+    let at_mid = slot-keeps mid s.tasks named.own u (f.own lock) was own in
+    let long : length first ≡ length s.tasks = length-at_task s.tasks named.own (f.own lock) in
+    subst (λ (y : Event). P (task_part (state_after s y) u)) (sym is)
+    (slot-keeps P _ named.woken u (f.woken lock) (slot-keeps P _ named.other u (f.other lock)
+    (slot-left P first named.owner u (f.owner lock) (subst (λ (n : ℕ). IfSome named.owner (λ v. v.0 < n)) (sym long) lt) (mine _ at_mid) (others _ at_mid)) other) woken)

@@ -48,15 +48,15 @@ pub insert_order : (row : Row) (rows : List Row) → All (IsApart row) rows → 
 insert_order row [] apart order = AllPairs-cons IsAhead row [] (All-nil (IsAhead row)) order
 insert_order row (other ∷ rows) apart order =
     let here : IsApart row other = All-head (IsApart row) other rows apart in
-    let behind : All (IsAhead other) rows = AllPairs-head IsAhead other rows order in
+    let later : All (IsAhead other) rows = AllPairs-head IsAhead other rows order in
     let rest : All (IsApart row) rows = All-tail (IsApart row) other rows apart in
     cond_both (goes_before row other) (row ∷ other ∷ rows) (other ∷ insert_row row rows) (AllPairs IsAhead)
     (λ is. AllPairs-cons IsAhead row (other ∷ rows)
     (All-cons (IsAhead row) other rows (record { order = is; task = here.task; ticket = here.ticket })
-    (λ k d lt. record { order = first_of_three row other (slice_index_or rows k d) is (behind k d lt).order; task = (rest k d lt).task; ticket = (rest k d lt).ticket }))
+    (λ k d lt. record { order = first_of_three row other (slice_index_or rows k d) is (later k d lt).order; task = (rest k d lt).task; ticket = (rest k d lt).ticket }))
     order)
     (λ is. AllPairs-cons IsAhead other (insert_row row rows)
-    (All-insert_row (IsAhead other) row rows (record { order = other_first row other here.ticket is; task = λ same. here.task (sym same); ticket = λ same. here.ticket (sym same) }) behind)
+    (All-insert_row (IsAhead other) row rows (record { order = other_first row other here.ticket is; task = λ same. here.task (sym same); ticket = λ same. here.ticket (sym same) }) later)
     (insert_order row rows rest (AllPairs-tail IsAhead other rows order)))
 
 -- ---- a task's row
@@ -107,8 +107,6 @@ row_of-without_other t u (row ∷ rows) ne =
     (λ is. let others : is_of u row ≡ false = not_both t u row ne (not-false (is_of t row) is) in rw others (row_of-without_other t u rows ne))
 
 -- ---- the top
-
--- the task of a row, and of the top one
 
 -- the bit that says that nobody is queued
 pub no_rows : (rows : List Row) → has_rows rows ≡ false → rows ≡ []
@@ -207,14 +205,14 @@ unowned-can_take t kind lock task may = by_owner lock.owner may
     by_owner (Some o) is = cc
 
 -- who may not take a lock before the top waiter isn't that one, and isn't better
-record IsBehind (t : TaskId) (key : ℕ) (top : Row) : Type 0 where
+record IsNoBetter (t : TaskId) (key : ℕ) (top : Row) : Type 0 where
   other : is_of t top ≡ false
   better : nat_lt key top.key ≡ false
 
-behind : (t : TaskId) (key : ℕ) (kind : Kind) (top : Row) → is_some (reason_before t key kind top) ≡ false → IsBehind t key top
-behind t key kind top is = by_tests (is_of t top) (nat_lt key top.key) _ refl refl is
+no_better : (t : TaskId) (key : ℕ) (kind : Kind) (top : Row) → is_some (reason_before t key kind top) ≡ false → IsNoBetter t key top
+no_better t key kind top is = by_tests (is_of t top) (nat_lt key top.key) _ refl refl is
   where
-    by_tests : (a b : Bool) (rest : Option Reason) → is_of t top ≡ a → nat_lt key top.key ≡ b → is_some (cond a (Some reasons.Top) (cond b (Some reasons.Better) rest)) ≡ false → IsBehind t key top
+    by_tests : (a b : Bool) (rest : Option Reason) → is_of t top ≡ a → nat_lt key top.key ≡ b → is_some (cond a (Some reasons.Top) (cond b (Some reasons.Better) rest)) ≡ false → IsNoBetter t key top
     by_tests true b rest is_a is_b none = absurd cc
     by_tests false true rest is_a is_b none = absurd cc
     by_tests false false rest is_a is_b none = record { other = is_a; better = is_b }
@@ -227,7 +225,7 @@ no_reason t kind lock task may none =
 -- the top waiter of a lock that nobody owns may take it
 pub not_top : (t : TaskId) (kind : Kind) (lock : OwnerPart) (task : TaskPart) (row : Row) → can_take t kind lock task ≡ false → lock.owner ≡ None → top_waiter lock.rows ≡ Some row → is_of t row ≡ false
 not_top t kind lock task row may none top =
-    (behind t (asked_key t lock.rows task) kind row
+    (no_better t (asked_key t lock.rows task) kind row
     (subst (λ (o : Option Row). is_some (reason_among t (asked_key t lock.rows task) kind o) ≡ false) top (no_reason t kind lock task may none))).other
 
 not_first : (key ticket : ℕ) (t : TaskId) (top : Row) → nat_lt key top.key ≡ false → top.ticket < ticket → goes_before (record { key = key; ticket = ticket; who = t.0 }) top ≡ false
@@ -244,7 +242,7 @@ after_top t key ticket kind (top ∷ rows) none all apart order =
     let first = top-first (top ∷ rows) order in
     let may_not = subst (λ (o : Option Row). is_some (reason_among t key kind o) ≡ false) first none in
     top-insert (record { key = key; ticket = ticket; who = t.0 }) top rows
-    (not_first key ticket t top (behind t key kind top may_not).better (All-head (λ (r : Row). r.ticket < ticket) top rows all)) apart order ∙ sym first
+    (not_first key ticket t top (no_better t key kind top may_not).better (All-head (λ (r : Row). r.ticket < ticket) top rows all)) apart order ∙ sym first
 
 -- a task that may not take a lock that nobody owns is queued after the top waiter
 pub queued_after : (t : TaskId) (kind : Kind) (lock : OwnerPart) (task : TaskPart) → can_take t kind lock task ≡ false → lock.owner ≡ None → queued_key t lock.rows ≡ None → IsQueue lock

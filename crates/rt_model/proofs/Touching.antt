@@ -1,7 +1,7 @@
 -- What an event touches, slot by slot.
 use Rattle.std.proofs.lemmas.Bool.{or_parts}
 use Rattle.std.proofs.lemmas.List.Folds.{list_any-append}
-use Rattle.std.proofs.Common.{◌≡◌, ℕ, Bool, true, false, ◌||◌, List, [], ◌∷◌, ◌++◌, refl, sym, ap, ◌∙◌, subst, Option, Some, None, IfSome}
+use Rattle.std.proofs.Common.{◌≡◌, ℕ, Bool, true, false, List, ◌++◌, refl, sym, ◌∙◌, subst, Option, Some, None, IfSome}
 use Rattle.std.specs.Prelude.{nat_eq}
 use Rattle.std.specs.List.{list_any}
 use Rattle.rt_base.specs.declared.id.LockId.{LockId}
@@ -11,7 +11,7 @@ use Rattle.rt_model.specs.declared.obj.Obj.{Obj}
 use Rattle.rt_model.specs.declared.obj.Obj.TheVariants as objects
 use Rattle.rt_model.specs.Effect.{Touched}
 use Rattle.rt_model.specs.Rules.{touched}
-use Rattle.rt_model.specs.Footprint.{same_object, owner_parts, reader_parts, tasks_of, along, objects_of, touches}
+use Rattle.rt_model.specs.Footprint.{same_object, owner_parts, reader_parts, tasks_of, objects_of, touches}
 use Rattle.rt_model.proofs.Numbers.{number_itself}
 
 -- the first doesn't pass the test, and none of the rest

@@ -1,5 +1,5 @@
 -- How far the machine goes so far: which scripts are played, and which calls and phases occur in their states.
-use Rattle.std.specs.Prelude.{◌≡◌, ℕ, ◌<◌, ◌≤◌, List, length, All, Option, Some}
+use Rattle.std.specs.Prelude.{◌≡◌, ℕ, ◌<◌, ◌≤◌, length, All, Option, Some}
 use Rattle.rt_base.specs.Script.{Script, TaskLine, LockLine}
 use Rattle.rt_base.specs.declared.call.Call.{Call}
 use Rattle.rt_base.specs.declared.call.Call.TheVariants.{Lock, Unlock}

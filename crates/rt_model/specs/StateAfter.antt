@@ -6,7 +6,7 @@ use Rattle.rt_model.specs.declared.event.Event.{Event}
 use Rattle.rt_model.specs.Parts.{OwnerPart, TaskPart, ThreadPart}
 use Rattle.rt_model.specs.State.{State, Shared, shared, thread_part}
 use Rattle.rt_model.specs.steps.Thread.{answered_with}
-use Rattle.rt_model.specs.Effect.{Touched, Around, Effect, around}
+use Rattle.rt_model.specs.Effect.{Touched, Effect, around}
 use Rattle.rt_model.specs.Rules.{touched, effect}
 
 -- the list with f of its element i in the place of that

@@ -3,13 +3,12 @@ use Rattle.std.proofs.Common.{◌≡◌, ◌⊎◌, inl, inr, Bool, true, false,
 use Rattle.rt_base.specs.declared.call.Call.TheVariants as calls
 use Rattle.rt_base.specs.declared.id.LockId.{LockId}
 use Rattle.rt_base.specs.declared.id.TaskId.{TaskId}
-use Rattle.rt_base.specs.declared.kind.Kind.{Kind}
 use Rattle.rt_base.specs.declared.state.TaskState.TheVariants.{Running}
 use Rattle.rt_model.specs.declared.event.Event.{Event}
 use Rattle.rt_model.specs.declared.obj.Obj.TheVariants as objects
 use Rattle.rt_model.specs.declared.phase.Phase.{Phase}
 use Rattle.rt_model.specs.declared.phase.Phase.TheVariants as phases
-use Rattle.rt_model.specs.Parts.{OwnerPart, TaskPart, hold_of, kind_of}
+use Rattle.rt_model.specs.Parts.{hold_of, kind_of}
 use Rattle.rt_model.specs.Rows.{can_take}
 use Rattle.rt_model.specs.State.{State, Shared, lock_in, owner_part, task_part, thread_part}
 use Rattle.rt_model.specs.Footprint.{touches}

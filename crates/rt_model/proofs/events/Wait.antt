@@ -1,5 +1,5 @@
 -- Waits: how they come about, and that their choice reads only what they touch.
-use Rattle.std.proofs.Common.{◌≡◌, ◌⊎◌, inl, inr, Bool, true, false, cond, refl, sym, ap, ◌∙◌, subst, Option, Some}
+use Rattle.std.proofs.Common.{◌≡◌, ◌⊎◌, inl, inr, Bool, true, false, cond, refl, sym, ap, ◌∙◌, subst, Some}
 use Rattle.rt_base.specs.declared.call.Call.TheVariants as calls
 use Rattle.rt_base.specs.declared.id.LockId.{LockId}
 use Rattle.rt_base.specs.declared.id.TaskId.{TaskId}
@@ -8,7 +8,7 @@ use Rattle.rt_base.specs.declared.state.TaskState.{TaskState}
 use Rattle.rt_base.specs.declared.state.TaskState.TheVariants as states
 use Rattle.rt_model.specs.declared.event.Event.{Event}
 use Rattle.rt_model.specs.declared.phase.Phase.TheVariants as phases
-use Rattle.rt_model.specs.Parts.{OwnerPart, TaskPart, kind_of}
+use Rattle.rt_model.specs.Parts.{TaskPart, kind_of}
 use Rattle.rt_model.specs.Rows.{can_take}
 use Rattle.rt_model.specs.State.{State, Shared, shared, lock_in, task_in, task_at, owner_part, task_part, thread_part}
 use Rattle.rt_model.specs.events.Acquire.{take_event}

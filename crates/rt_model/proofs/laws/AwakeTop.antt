@@ -1,6 +1,6 @@
 -- A next event keeps the awake-top law.
-use Rattle.std.proofs.Common.{◌≡◌, ◌≢◌, ℕ, ◌<◌, Bool, true, false, cond, List, length, refl, sym, ap, ◌∙◌, subst, arith, Option, Some, None, IfSome}
-use Rattle.std.specs.Prelude.{nat_eq, is_some, option_map, slice_get, unwrap_or}
+use Rattle.std.proofs.Common.{◌≡◌, ◌≢◌, ℕ, ◌<◌, Bool, false, cond, List, length, refl, sym, ap, ◌∙◌, subst, arith, Option, Some, None, IfSome}
+use Rattle.std.specs.Prelude.{nat_eq, option_map, slice_get, unwrap_or}
 use Rattle.std.proofs.lemmas.Bool.{cond_both}
 use Rattle.std.proofs.lemmas.Bool.Decides.{nat_tests}
 use Rattle.rt_base.specs.Kind.{spins}
@@ -10,16 +10,12 @@ use Rattle.rt_base.specs.declared.id.TaskId.{TaskId}
 use Rattle.rt_base.specs.declared.state.TaskState.{TaskState}
 use Rattle.rt_base.specs.declared.state.TaskState.TheVariants as states
 use Rattle.rt_model.specs.declared.event.Event.{Event}
-use Rattle.rt_model.specs.declared.event_kind.EventKind.{EventKind}
-use Rattle.rt_model.specs.declared.event_kind.EventKind.TheVariants as kinds
 use Rattle.rt_model.specs.declared.row.Row.{Row}
-use Rattle.rt_model.specs.Parts.{OwnerPart, TaskPart, ThreadPart, effective_of, kind_of, kind_named}
-use Rattle.rt_model.specs.Rows.{top_waiter, top_key, top_task, task_of, is_of, insert_row}
-use Rattle.rt_model.specs.State.{State, shared, no_task, owner_part, task_part, thread_part}
-use Rattle.rt_model.specs.steps.Task.{with_top, restored, leave_queue, sleeps, woken_up, lock_state_woken, lock_woken}
-use Rattle.rt_model.specs.Effect.{Around, around}
-use Rattle.rt_model.specs.Rules.{touched, effect}
-use Rattle.rt_model.specs.StateAfter.{at_task, lock_left, state_after}
+use Rattle.rt_model.specs.Parts.{OwnerPart, TaskPart, effective_of, kind_of}
+use Rattle.rt_model.specs.Rows.{top_waiter, top_task, task_of, is_of, insert_row}
+use Rattle.rt_model.specs.State.{State, no_task, owner_part, task_part, thread_part}
+use Rattle.rt_model.specs.steps.Task.{with_top, sleeps, woken_up, lock_woken}
+use Rattle.rt_model.specs.StateAfter.{at_task, state_after}
 use Rattle.rt_model.specs.laws.AwakeTop.{AwakeTopLaw}
 use Rattle.rt_model.specs.laws.Lawful.{IsLawful}
 use Rattle.rt_model.specs.laws.Owners.{owned_by}
@@ -30,8 +26,9 @@ use Rattle.rt_model.proofs.events.Acquire.{is_fast, is_mark, is_take}
 use Rattle.rt_model.proofs.events.Wait.{IsWait, IsAgain, is_wait, is_again}
 use Rattle.rt_model.proofs.events.Release.{IsGive, is_free, is_give}
 use Rattle.rt_model.proofs.Numbers.{number_itself, at_each_lock}
-use Rattle.rt_model.proofs.PartsAfter.{OthersKeep, lock-kept, lock-made, task-keeps, other-keeps, slot-keeps, slot-left}
+use Rattle.rt_model.proofs.PartsAfter.{lock-kept, lock-made, task-keeps, other-keeps, slot-keeps, slot-left}
 use Rattle.rt_model.proofs.Queues.{none_of, top-at, not_top, queued_after}
+use Rattle.rt_model.proofs.TaskStates.{HasState, sends_to_sleep, state-own, state-others}
 use Rattle.rt_model.proofs.Waiters.{slow-unqueued, wait-elsewhere}
 use Rattle.rt_model.proofs.Within.{rows_within}
 use Rattle.rt_model.proofs.laws.States.{spins-known}
@@ -42,31 +39,8 @@ others_row t row is = grind (arith, nat_tests)
 
 -- ---- a task that runs
 
-record IsAwake (task : TaskPart) : Type 0 where
-  state : task.state ≡ states.Running
-  saved : task.saved ≡ states.Running
-
-awake-with_top : (l : Option LockId) (top : Option ℕ) (task : TaskPart) → IsAwake task → IsAwake (with_top l top task)
-awake-with_top None top task awake = awake
-awake-with_top (Some l) top task awake = record { state = awake.state; saved = awake.saved }
-
-awake-restored : (spinning : Bool) (task : TaskPart) → IsAwake task → IsAwake (restored spinning task)
-awake-restored true task awake = record { state = awake.saved; saved = refl }
-awake-restored false task awake = record { state = refl; saved = awake.saved }
-
-awake-leave_queue : (spinning : Bool) (task : TaskPart) → IsAwake task → IsAwake (leave_queue spinning task)
-awake-leave_queue spinning task awake =
-    let rested = awake-restored spinning task awake in
-    cond_both (is_some task.blocked) (record (restored spinning task) { blocked = None }) task IsAwake
-    (λ is. record { state = rested.state; saved = rested.saved }) (λ is. awake)
-
--- one that is woken goes on to run
-awake-lock_woken : (spinning : Bool) (task : TaskPart) → IsAwake task → IsAwake (lock_woken spinning task)
-awake-lock_woken true task awake = record { state = ap lock_state_woken awake.state; saved = awake.saved }
-awake-lock_woken false task awake =
-    cond_both (sleeps task.state) (record task { state = states.Running }) (cond (sleeps task.saved) (record task { saved = states.Running }) task) IsAwake
-    (λ is. record { state = refl; saved = awake.saved })
-    (λ is. cond_both (sleeps task.saved) (record task { saved = states.Running }) task IsAwake (λ saved. record { state = awake.state; saved = refl }) (λ not_saved. awake))
+abbrev IsRunning : TaskState → Type 0
+IsRunning state = state ≡ states.Running
 
 awake_state : (state : TaskState) → sleeps state ≡ false → state ≢ states.LockWait → state ≡ states.Running
 awake_state states.Running is ne = refl
@@ -74,30 +48,12 @@ awake_state states.LockWait is ne = absurd (ne refl)
 awake_state states.Interruptible is ne = cc
 awake_state states.Uninterruptible is ne = cc
 
--- and an ordinary wakeup leaves any task running that doesn't wait for a spinning kind
+-- an ordinary wakeup leaves any task running that doesn't wait for a spinning kind
 woken_up-runs : (task : TaskPart) → task.state ≢ states.LockWait → (woken_up task).state ≡ states.Running
 woken_up-runs task ne =
     cond_both (sleeps task.state) (record task { state = states.Running }) (cond (sleeps task.saved) (record task { saved = states.Running }) task) (λ (after : TaskPart). after.state ≡ states.Running)
     (λ is. refl)
     (λ is. cond_both (sleeps task.saved) (record task { saved = states.Running }) task (λ (after : TaskPart). after.state ≡ states.Running) (λ saved. awake_state task.state is ne) (λ not_saved. awake_state task.state is ne))
-
--- an event of this kind sends its own task to sleep
-abbrev sleeps_after : EventKind → Bool
-sleeps_after kinds.Wait = true
-sleeps_after kinds.Again = true
-sleeps_after _ = false
-
-awake-own : (kind : EventKind) (e : Event) (th : ThreadPart) (found : Around) (lock : OwnerPart) → sleeps_after kind ≡ false → (task : TaskPart) → IsAwake task → IsAwake ((effect kind e th found).own lock task)
-awake-own kinds.Wait e th found lock is task awake = cc
-awake-own kinds.Again e th found lock is task awake = cc
-awake-own kinds.Take e th found lock is task awake = awake-with_top e.lock (top_key lock.rows) (leave_queue (spins (kind_named th e.lock)) task) (awake-leave_queue (spins (kind_named th e.lock)) task awake)
-awake-own kinds.Give e th found lock is task awake = awake-with_top e.lock None task awake
-awake-own _ e th found lock is task awake = awake
-
-awake-others : (kind : EventKind) (e : Event) (th : ThreadPart) (found : Around) (lock : OwnerPart) → OthersKeep IsAwake (effect kind e th found) lock
-awake-others kinds.Wait e th found lock = record { owner = λ task. awake-with_top e.lock (top_key lock.rows) task; other = λ task awake. awake; woken = λ task awake. awake }
-awake-others kinds.Give e th found lock = record { owner = λ task awake. awake; other = λ task awake. awake; woken = λ task. awake-lock_woken (spins (kind_named th e.lock)) task }
-awake-others _ e th found lock = record { owner = λ task awake. awake; other = λ task awake. awake; woken = λ task awake. awake }
 
 -- ---- the law
 
@@ -111,27 +67,25 @@ HasAwakeTop s lock = lock.owner ≡ None → IfSome (top_waiter lock.rows) (Runs
 
 module _ (s : State) (made : ℕ) (t : TaskId) (e : Event) (lawful : IsLawful s made) where
   -- so it does afterwards at a lock that is as it was, where it goes on to run
-  still_awake : (m : LockId) → ((row : Row) → (owner_part s m).owner ≡ None → top_waiter (owner_part s m).rows ≡ Some row → IsAwake (task_part s (task_of row)) → IsAwake (task_part (state_after s e) (task_of row)))
+  still_awake : (m : LockId) → ((row : Row) → (owner_part s m).owner ≡ None → top_waiter (owner_part s m).rows ≡ Some row → HasState IsRunning (task_part s (task_of row)) → HasState IsRunning (task_part (state_after s e) (task_of row)))
       → HasAwakeTop (state_after s e) (owner_part s m)
   still_awake m stays none =
       if_some (top_waiter (owner_part s m).rows) (Runs s) (Runs (state_after s e))
       (λ row top runs. (stays row none top (record { state = runs; saved = lawful.states.saved (task_of row) })).state) (lawful.awake m none)
 
   -- each task that runs goes on to, where the event's own isn't sent to sleep
-  all_awake : (m : LockId) → sleeps_after e.kind ≡ false → HasAwakeTop (state_after s e) (owner_part s m)
-  all_awake m is =
+  all_awake : (x : Event) (m : LockId) → e ≡ x → sends_to_sleep x.kind ≡ false → HasAwakeTop (state_after s e) (owner_part s m)
+  all_awake x m is awake =
       let th = thread_part s e.task in
-      let found = around (shared s) (touched e.kind e) in
-      let lock = lock_left (shared s) th e in
-      still_awake m (λ row none top awake. task-keeps IsAwake s e (task_of row) awake (awake-own e.kind e th found lock is) (awake-others e.kind e th found lock))
+      let stays = state-own IsRunning refl e.kind e th (ap (λ (y : Event). sends_to_sleep y.kind) is ∙ awake) in
+      still_awake m (λ row none top runs. task-keeps (HasState IsRunning) s e (task_of row) runs stays (state-others IsRunning refl e.kind e th))
 
   -- and where that one isn't the top waiter
   others_awake : (m : LockId) → e.task ≡ t → ((row : Row) → (owner_part s m).owner ≡ None → top_waiter (owner_part s m).rows ≡ Some row → is_of t row ≡ false) → HasAwakeTop (state_after s e) (owner_part s m)
   others_awake m own isnt =
-      let th = thread_part s e.task in
-      let found = around (shared s) (touched e.kind e) in
-      let lock = lock_left (shared s) th e in
-      still_awake m (λ row none top awake. other-keeps IsAwake s e (task_of row) (ap (λ (v : TaskId). nat_eq v.0 row.who) own ∙ others_row t row (isnt row none top)) awake (awake-others e.kind e th found lock))
+      still_awake m
+      (λ row none top runs. other-keeps (HasState IsRunning) s e (task_of row) (ap (λ (v : TaskId). nat_eq v.0 row.who) own ∙ others_row t row (isnt row none top)) runs
+      (state-others IsRunning refl e.kind e (thread_part s e.task)))
 
   -- a task that waits anew is no top waiter
   wait-awake : (l m : LockId) → IsWait s t l e → HasAwakeTop (state_after s e) (owner_part s m)
@@ -197,16 +151,16 @@ AwakeTopLaw-next s made t e lawful next m = by_kind next
     Awake : LockId → OwnerPart → Type 0
     Awake k lock = HasAwakeTop (state_after s e) lock
 
-    kept : (x : Event) → e ≡ x → sleeps_after x.kind ≡ false → Awake m (owner_part s m)
-    kept x is awake = all_awake s made t e lawful m (ap (λ (y : Event). sleeps_after y.kind) is ∙ awake)
-
     by_kind : IsNext s t e → Awake m (owner_part (state_after s e) m)
-    by_kind (by_own call answer is) = lock-kept (Awake m) s e _ m is.event (kept _ is.event refl) (λ lock was. was)
-    by_kind (by_acquire l (is_mark is)) = lock-kept (Awake m) s e _ m is.event (kept _ is.event refl) (λ lock was. was)
-    by_kind (by_acquire l (is_fast is)) = lock-kept (Awake m) s e _ m is.event (kept _ is.event refl) (λ lock was none. absurd cc)
-    by_kind (by_acquire l (is_take is)) = lock-kept (Awake m) s e _ m is.event (kept _ is.event refl) (λ lock was none. absurd cc)
+    by_kind (by_own call answer is) = lock-kept (Awake m) s e _ m is.event (all_awake s made t e lawful _ m is.event refl) (λ lock was. was)
+    by_kind (by_acquire l (is_mark is)) = lock-kept (Awake m) s e _ m is.event (all_awake s made t e lawful _ m is.event refl) (λ lock was. was)
+    by_kind (by_acquire l (is_fast is)) = lock-kept (Awake m) s e _ m is.event (all_awake s made t e lawful _ m is.event refl) (λ lock was none. absurd cc)
+    by_kind (by_acquire l (is_take is)) = lock-kept (Awake m) s e _ m is.event (all_awake s made t e lawful _ m is.event refl) (λ lock was none. absurd cc)
     by_kind (by_wait l (is_wait is)) = lock-made Awake s e _ l m is.event refl is.at.served (wait-here s made t e lawful l is) (λ there. wait-awake s made t e lawful l m is)
     by_kind (by_wait l (is_again is)) = lock-kept (Awake m) s e _ m is.event (again-awake s made t e lawful l m is) (λ lock was. was)
     by_kind (by_release l (is_free is)) =
-        lock-made Awake s e _ l m is.event refl is.at.served (λ none. subst (λ (rows : List Row). IfSome (top_waiter rows) (Runs (state_after s e))) (sym ((lawful.rows.queue l).clear is.bit)) tt) (λ there. kept _ is.event refl)
-    by_kind (by_release l (is_give is)) = lock-made Awake s e _ l m is.event refl is.at.served (λ none. if_found (top_waiter (owner_part s l).rows) (Runs (state_after s e)) (give-here s made t e lawful l is)) (λ there. kept _ is.event refl)
+        lock-made Awake s e _ l m is.event refl is.at.served
+        (λ none. subst (λ (rows : List Row). IfSome (top_waiter rows) (Runs (state_after s e))) (sym ((lawful.rows.queue l).clear is.bit)) tt) (λ there. all_awake s made t e lawful _ m is.event refl)
+    by_kind (by_release l (is_give is)) =
+        lock-made Awake s e _ l m is.event refl is.at.served
+        (λ none. if_found (top_waiter (owner_part s l).rows) (Runs (state_after s e)) (give-here s made t e lawful l is)) (λ there. all_awake s made t e lawful _ m is.event refl)

@@ -15,18 +15,17 @@ use Rattle.rt_base.specs.declared.kind.Kind.TheVariants.{Mutex}
 use Rattle.rt_base.specs.declared.reply.Reply.{Reply}
 use Rattle.rt_base.specs.declared.reply.Reply.TheVariants as replies
 use Rattle.rt_model.specs.declared.event.Event.{Event}
-use Rattle.rt_model.specs.declared.event_kind.EventKind.{EventKind}
 use Rattle.rt_model.specs.declared.event_kind.EventKind.TheVariants as kinds
 use Rattle.rt_model.specs.declared.hold.Hold.{Hold}
 use Rattle.rt_model.specs.declared.phase.Phase.{Phase}
 use Rattle.rt_model.specs.Parts.{ThreadPart, call_of}
-use Rattle.rt_model.specs.State.{State, shared, start, fresh_thread, no_thread, kinds_in, thread_part}
+use Rattle.rt_model.specs.State.{State, shared, start, fresh_thread, kinds_in, thread_part}
 use Rattle.rt_model.specs.steps.Thread.{answered_with}
-use Rattle.rt_model.specs.Effect.{Around, around}
+use Rattle.rt_model.specs.Effect.{around}
 use Rattle.rt_model.specs.Choice.{called_lock}
 use Rattle.rt_model.specs.events.Own.{unless_nested, if_held, if_not_held, spinning_holds}
-use Rattle.rt_model.specs.Rules.{touched, effect}
-use Rattle.rt_model.specs.StateAfter.{effect_in, shared_after, thread_after, state_after}
+use Rattle.rt_model.specs.Rules.{touched}
+use Rattle.rt_model.specs.StateAfter.{effect_in, shared_after, state_after}
 use Rattle.rt_model.specs.Run.{after, IsRun, is_at_end, is_done, is_stuck, ended_of}
 use Rattle.rt_model.specs.Stage.{IsStaged}
 use Rattle.rt_model.specs.laws.Lawful.{IsLawful}
@@ -40,10 +39,10 @@ use Rattle.rt_model.proofs.events.Own.{IsOwn}
 use Rattle.rt_model.proofs.events.Acquire.{is_fast, is_mark, is_take}
 use Rattle.rt_model.proofs.events.Wait.{is_wait, is_again}
 use Rattle.rt_model.proofs.events.Release.{is_free, is_give}
-use Rattle.rt_model.proofs.PartsAfter.{read-update, read-update_other}
+use Rattle.rt_model.proofs.PartsAfter.{thread-own, thread-other, thread-phase}
 use Rattle.rt_model.proofs.Prefixes.{run-next, run-lawful, next-task, IsOf-along}
 use Rattle.rt_model.proofs.Starts.{IsOf-start}
-use Rattle.rt_model.proofs.laws.Shape.{IsOf-threads}
+use Rattle.rt_model.proofs.laws.Shape.{thread-keeps, IsOf-threads}
 use Rattle.rt_model.proofs.laws.States.{kinds_known}
 
 -- ---- an event is one of its task's call
@@ -101,7 +100,7 @@ its_call s t e staged (by_wait l (is_again is)) = in_call s t _ _ e _ is.at is.e
 its_call s t e staged (by_release l (is_free is)) = in_call s t _ _ e _ is.at is.event refl refl
 its_call s t e staged (by_release l (is_give is)) = in_call s t _ _ e _ is.at is.event refl refl
 
--- ---- what an event leaves of a thread's count, by its kind alone
+-- ---- what an event leaves of a thread's count
 
 -- a thread with the calls and the processor of another, and this count of answers
 record IsAt (thread : ThreadPart) (n : ℕ) (other : ThreadPart) : Type 0 where
@@ -109,34 +108,27 @@ record IsAt (thread : ThreadPart) (n : ℕ) (other : ThreadPart) : Type 0 where
   calls : other.calls ≡ thread.calls
   cpu : other.cpu ≡ thread.cpu
 
-kind-keeps : (kind : EventKind) (e : Event) (th : ThreadPart) (found left : Around) (thread : ThreadPart) → IsAt thread thread.answered ((effect kind e th found).thread left thread)
-kind-keeps kinds.Mark e th found left thread = record { answered = refl; calls = refl; cpu = refl }
-kind-keeps _ e th found left thread = record { answered = refl; calls = refl; cpu = refl }
-
 -- an answer counts
 abbrev answers : ℕ → Option Reply → ℕ
 answers n None = n
 answers n (Some answer) = suc n
 
-answer-counts : (thread : ThreadPart) (reply : Option Reply) → IsAt thread (answers thread.answered reply) (answered_with thread reply)
-answer-counts thread None = record { answered = refl; calls = refl; cpu = refl }
-answer-counts thread (Some answer) = record { answered = omega arith; calls = refl; cpu = refl }
+answer-counts : (thread : ThreadPart) (reply : Option Reply) → (answered_with thread reply).answered ≡ answers thread.answered reply
+answer-counts thread None = refl
+answer-counts thread (Some answer) = omega arith
 
 -- the event's own thread, and every other
 own-counts : (s : State) (e : Event) → e.task.0 < length s.threads → IsAt (thread_part s e.task) (answers (thread_part s e.task).answered e.reply) (thread_part (state_after s e) e.task)
 own-counts s e lt =
     let th = thread_part s e.task in
     let left = around (shared_after (shared s) th e) (touched e.kind e) in
-    let moved = (effect_in (shared s) th e).thread left th in
-    let kept : IsAt th th.answered moved = kind-keeps e.kind e th (around (shared s) (touched e.kind e)) left th in
-    let counts = answer-counts moved e.reply in
-    subst (IsAt th (answers th.answered e.reply)) (sym (read-update s.threads e.task.0 (λ old. thread_after (shared s) th e) no_thread lt))
-    (record { answered = counts.answered ∙ ap (λ (n : ℕ). answers n e.reply) kept.answered; calls = counts.calls ∙ kept.calls; cpu = counts.cpu ∙ kept.cpu })
+    let moved = thread-phase e.kind e th (around (shared s) (touched e.kind e)) left th in
+    let keeps = thread-keeps (shared s) th e in
+    subst (IsAt th (answers th.answered e.reply)) (sym (thread-own s e e refl lt))
+    (record { answered = answer-counts ((effect_in (shared s) th e).thread left th) e.reply ∙ ap (λ (thread : ThreadPart). answers thread.answered e.reply) moved; calls = keeps.calls; cpu = keeps.cpu })
 
 other-counts : (s : State) (e : Event) (t : TaskId) → nat_eq e.task.0 t.0 ≡ false → IsAt (thread_part s t) (thread_part s t).answered (thread_part (state_after s e) t)
-other-counts s e t other =
-    let same = read-update_other s.threads e.task.0 t.0 (λ old. thread_after (shared s) (thread_part s e.task) e) no_thread other in
-    record { answered = ap (λ (th : ThreadPart). th.answered) same; calls = ap (λ (th : ThreadPart). th.calls) same; cpu = ap (λ (th : ThreadPart). th.cpu) same }
+other-counts s e t other = subst (IsAt (thread_part s t) (thread_part s t).answered) (sym (thread-other s e t other)) (record { answered = refl; calls = refl; cpu = refl })
 
 -- ---- over a run
 

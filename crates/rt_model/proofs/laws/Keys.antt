@@ -1,5 +1,5 @@
 -- A next event keeps the keys law.
-use Rattle.std.proofs.Common.{◌≡◌, inl, inr, ℕ, Bool, true, false, List, refl, sym, ap, ◌∙◌, subst, Option, Some, None, IfSome}
+use Rattle.std.proofs.Common.{◌≡◌, inl, inr, ℕ, Bool, true, false, refl, sym, ap, ◌∙◌, subst, Option, Some, None, IfSome}
 use Rattle.std.specs.Prelude.{nat_eq}
 use Rattle.rt_base.specs.Kind.{spins}
 use Rattle.rt_base.specs.declared.call.Call.{Call}
@@ -14,20 +14,19 @@ use Rattle.rt_model.specs.declared.phase.Phase.{Phase}
 use Rattle.rt_model.specs.declared.phase.Phase.TheVariants as phases
 use Rattle.rt_model.specs.Parts.{OwnerPart, TaskPart, ThreadPart, call_of, effective_of, kind_of, kind_named}
 use Rattle.rt_model.specs.Rows.{top_key}
-use Rattle.rt_model.specs.State.{State, shared, task_at, owner_part, task_part, thread_part}
+use Rattle.rt_model.specs.State.{State, owner_part, task_part, thread_part}
 use Rattle.rt_model.specs.steps.Task.{with_top, rest_of, blocked_on, leave_queue}
-use Rattle.rt_model.specs.Effect.{Around, around}
-use Rattle.rt_model.specs.Rules.{touched, effect}
-use Rattle.rt_model.specs.StateAfter.{lock_left, state_after}
+use Rattle.rt_model.specs.Effect.{Around}
+use Rattle.rt_model.specs.Rules.{effect}
+use Rattle.rt_model.specs.StateAfter.{state_after}
 use Rattle.rt_model.specs.Stage.{IsPhaseOf}
-use Rattle.rt_model.specs.events.Wait.{wait_event}
 use Rattle.rt_model.specs.laws.Keys.{StandsAt, IsToConfirm, IsNamed, KeysLaw}
 use Rattle.rt_model.specs.laws.Lawful.{IsLawful}
 use Rattle.rt_model.specs.laws.Owners.{owned_by}
 use Rattle.rt_model.proofs.Blocked.{blocked-other}
 use Rattle.rt_model.proofs.CellStepLemmas.{IsWoken, effective-like, leave_queue-blocked, with_top-blocked, lock_woken-like, blocked_on-like}
 use Rattle.rt_model.proofs.Lists.{if_some}
-use Rattle.rt_model.proofs.NextEvents.{IsNext, by_own, by_acquire, by_wait, by_release, task-IsNext}
+use Rattle.rt_model.proofs.NextEvents.{IsNext, by_own, by_acquire, by_wait, by_release}
 use Rattle.rt_model.proofs.events.Acquire.{is_fast, is_mark, is_take}
 use Rattle.rt_model.proofs.events.Wait.{IsWait, is_wait, is_again}
 use Rattle.rt_model.proofs.events.Release.{IsGive, is_free, is_give}
@@ -74,18 +73,18 @@ keeps_keys kinds.Wait = false
 keeps_keys kinds.Give = false
 keeps_keys _ = true
 
-key-own : (kind : EventKind) (e : Event) (th : ThreadPart) (found : Around) (lock : OwnerPart) → keeps_keys kind ≡ true → (task : TaskPart) → HasKey task → HasKey ((effect kind e th found).own lock task)
-key-own kinds.Wait e th found lock is task was = cc
-key-own kinds.Give e th found lock is task was = cc
-key-own kinds.Take e th found lock is task was =
+key-own : (kind : EventKind) (e : Event) (th : ThreadPart) → keeps_keys kind ≡ true → (found : Around) (lock : OwnerPart) (task : TaskPart) → HasKey task → HasKey ((effect kind e th found).own lock task)
+key-own kinds.Wait e th is found lock task was = cc
+key-own kinds.Give e th is found lock task was = cc
+key-own kinds.Take e th is found lock task was =
     let left : TaskPart = leave_queue (spins (kind_named th e.lock)) task in
     unblocked-key (with_top e.lock (top_key lock.rows) left) (with_top-blocked e.lock (top_key lock.rows) left ∙ leave_queue-blocked (spins (kind_named th e.lock)) task)
-key-own _ e th found lock is task was = was
+key-own _ e th is found lock task was = was
 
-key-others : (kind : EventKind) (e : Event) (th : ThreadPart) (found : Around) (lock : OwnerPart) → keeps_keys kind ≡ true → OthersKeep HasKey (effect kind e th found) lock
-key-others kinds.Wait e th found lock is = cc
-key-others kinds.Give e th found lock is = cc
-key-others _ e th found lock is = record { owner = λ task was. was; other = λ task was. was; woken = λ task was. was }
+key-others : (kind : EventKind) (e : Event) (th : ThreadPart) → keeps_keys kind ≡ true → (found : Around) (lock : OwnerPart) → OthersKeep HasKey (effect kind e th found) lock
+key-others kinds.Wait e th is found lock = cc
+key-others kinds.Give e th is found lock = cc
+key-others _ e th is found lock = record { owner = λ task was. was; other = λ task was. was; woken = λ task was. was }
 
 -- ---- the law
 
@@ -93,12 +92,10 @@ module _ (s : State) (made : ℕ) (t : TaskId) (e : Event) (u : TaskId) (lawful 
   key : HasKey (task_part s u)
   key = lawful.keys u (unnamed s made u lawful)
 
-  kept-key : keeps_keys e.kind ≡ true → HasKey (task_part (state_after s e) u)
-  kept-key is =
-      let th = thread_part s e.task in
-      let found = around (shared s) (touched e.kind e) in
-      let lock = lock_left (shared s) th e in
-      task-keeps HasKey s e u key (key-own e.kind e th found lock is) (key-others e.kind e th found lock is)
+  kept-key : (x : Event) → e ≡ x → keeps_keys x.kind ≡ true → HasKey (task_part (state_after s e) u)
+  kept-key x is keeps =
+      let kind : keeps_keys e.kind ≡ true = ap (λ (y : Event). keeps_keys y.kind) is ∙ keeps in
+      task-keeps HasKey s e u key (key-own e.kind e (thread_part s e.task) kind) (key-others e.kind e (thread_part s e.task) kind)
 
   -- the waiter's key is its priority, and the owner, whose priority may change, isn't blocked
   wait-key : (l : LockId) → IsWait s t l e → HasKey (task_part (state_after s e) u)
@@ -126,15 +123,12 @@ module _ (s : State) (made : ℕ) (t : TaskId) (e : Event) (u : TaskId) (lawful 
 pub KeysLaw-next : (s : State) (made : ℕ) (t : TaskId) (e : Event) → IsLawful s made → IsNext s t e → KeysLaw (state_after s e)
 KeysLaw-next s made t e lawful next u named = by_kind next
   where
-    kept : (x : Event) → e ≡ x → keeps_keys x.kind ≡ true → HasKey (task_part (state_after s e) u)
-    kept x is keeps = kept-key s made t e u lawful (ap (λ (y : Event). keeps_keys y.kind) is ∙ keeps)
-
     by_kind : IsNext s t e → HasKey (task_part (state_after s e) u)
-    by_kind (by_own call answer is) = kept _ is.event refl
-    by_kind (by_acquire l (is_fast is)) = kept _ is.event refl
-    by_kind (by_acquire l (is_mark is)) = kept _ is.event refl
-    by_kind (by_acquire l (is_take is)) = kept _ is.event refl
+    by_kind (by_own call answer is) = kept-key s made t e u lawful _ is.event refl
+    by_kind (by_acquire l (is_fast is)) = kept-key s made t e u lawful _ is.event refl
+    by_kind (by_acquire l (is_mark is)) = kept-key s made t e u lawful _ is.event refl
+    by_kind (by_acquire l (is_take is)) = kept-key s made t e u lawful _ is.event refl
     by_kind (by_wait l (is_wait is)) = wait-key s made t e u lawful l is
-    by_kind (by_wait l (is_again is)) = kept _ is.event refl
-    by_kind (by_release l (is_free is)) = kept _ is.event refl
+    by_kind (by_wait l (is_again is)) = kept-key s made t e u lawful _ is.event refl
+    by_kind (by_release l (is_free is)) = kept-key s made t e u lawful _ is.event refl
     by_kind (by_release l (is_give is)) = give-key s made t e u lawful l is

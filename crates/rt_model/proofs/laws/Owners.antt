@@ -24,10 +24,10 @@ use Rattle.rt_model.proofs.NextEvents.{IsNext, by_own, by_acquire, by_wait, by_r
 use Rattle.rt_model.proofs.events.Acquire.{is_fast, is_mark, is_take}
 use Rattle.rt_model.proofs.events.Wait.{is_wait, is_again}
 use Rattle.rt_model.proofs.events.Release.{is_free, is_give}
-use Rattle.rt_model.proofs.Numbers.{number_itself, same_lock, at_each_task, nobodys, one_owner}
+use Rattle.rt_model.proofs.Numbers.{number_itself, same_lock, nobodys, one_owner}
 use Rattle.rt_model.proofs.Queues.{unowned-can_take}
 use Rattle.rt_model.proofs.Within.{holds_room}
-use Rattle.rt_model.proofs.PartsAfter.{read-set_same, read-set_other, lock-left, lock-keeps, thread-left}
+use Rattle.rt_model.proofs.PartsAfter.{read-set_same, read-set_other, lock-made, lock-kept, thread-made}
 
 -- ---- holds
 
@@ -89,43 +89,33 @@ gives_there s l m o there = sym (cond-false (nat_eq l.0 m.0) o (owner_part s m).
 
 -- ---- the law
 
-module _ (s : State) (made : ℕ) (e : Event) (lawful : IsLawful s made) where
+module _ (s : State) (made : ℕ) (e x : Event) (lawful : IsLawful s made) (is : e ≡ x) (there : x.task.0 < length s.threads) where
   -- an event that changes neither its thread's holds nor any owner
-  pub owners_keep : e.task.0 < length s.threads → (thread_after (shared s) (thread_part s e.task) e).holds ≡ (thread_part s e.task).holds
-      → ((lock : OwnerPart) → ((effect_in (shared s) (thread_part s e.task) e).lock lock).owner ≡ lock.owner) → OwnersLaw (state_after s e)
-  owners_keep there holds keeps m u =
-      thread-left (λ v th. (hold_of th m).owns ≡ owned_by (owner_part (state_after s e) m).owner v) s e u there
-      (ap (λ (hs : List Hold). (hold_of (record (thread_part s e.task) { holds = hs }) m).owns) holds ∙ was e.task) (λ other. was u)
+  keep_owners : (thread_after (shared s) (thread_part s x.task) x).holds ≡ (thread_part s x.task).holds
+      → ((lock : OwnerPart) → ((effect_in (shared s) (thread_part s x.task) x).lock lock).owner ≡ lock.owner) → OwnersLaw (state_after s e)
+  keep_owners holds keeps m u =
+      thread-made (λ v th. (hold_of th m).owns ≡ owned_by (owner_part (state_after s e) m).owner v) s e x u is there
+      (ap (λ (hs : List Hold). (hold_of (record (thread_part s x.task) { holds = hs }) m).owns) holds ∙ was x.task) (λ other. was u)
     where
       was : (v : TaskId) → (hold_of (thread_part s v) m).owns ≡ owned_by (owner_part (state_after s e) m).owner v
-      was v = lawful.owners m v ∙ sym (lock-keeps (λ lock. owned_by lock.owner v ≡ owned_by (owner_part s m).owner v) s e m refl (λ lock is. ap (λ (o : Option TaskId). owned_by o v) (keeps lock) ∙ is))
+      was v = lawful.owners m v ∙ sym (lock-kept (λ lock. owned_by lock.owner v ≡ owned_by (owner_part s m).owner v) s e x m is refl (λ lock same. ap (λ (o : Option TaskId). owned_by o v) (keeps lock) ∙ same))
 
   -- an event that gives its task a lock that nobody owns, or frees one that it owns
-  pub owners_change : (l : LockId) (o : Option TaskId) → (touched e.kind e).lock ≡ Some l → l.0 < length s.locks → e.task.0 < length s.threads
-      → (thread_after (shared s) (thread_part s e.task) e).holds ≡ with_hold (thread_part s e.task) l (owned_by o e.task) → ((effect_in (shared s) (thread_part s e.task) e).lock (owner_part s l)).owner ≡ o
-      → ((u : TaskId) → nat_eq e.task.0 u.0 ≡ false → (owned_by o u ≡ false) × (owned_by (owner_part s l).owner u ≡ false)) → OwnersLaw (state_after s e)
-  owners_change l o named lt there holds gives others m u =
-      thread-left (λ v th. (hold_of th m).owns ≡ owned_by (owner_part (state_after s e) m).owner v) s e u there
-      (ap (λ (hs : List Hold). (hold_of (record (thread_part s e.task) { holds = hs }) m).owns) holds ∙ (read-with_hold (thread_part s e.task) l m (owned_by o e.task) (holds_room s e.task l lawful.shape there lt)
-      ∙ (ap (λ (b : Bool). cond (nat_eq l.0 m.0) (owned_by o e.task) b) (lawful.owners m e.task) ∙ sym (owned e.task))))
+  change_owner : (l : LockId) (o : Option TaskId) → (touched x.kind x).lock ≡ Some l → l.0 < length s.locks
+      → (thread_after (shared s) (thread_part s x.task) x).holds ≡ with_hold (thread_part s x.task) l (owned_by o x.task) → ((effect_in (shared s) (thread_part s x.task) x).lock (owner_part s l)).owner ≡ o
+      → ((u : TaskId) → nat_eq x.task.0 u.0 ≡ false → (owned_by o u ≡ false) × (owned_by (owner_part s l).owner u ≡ false)) → OwnersLaw (state_after s e)
+  change_owner l o named lt holds gives others m u =
+      thread-made (λ v th. (hold_of th m).owns ≡ owned_by (owner_part (state_after s e) m).owner v) s e x u is there
+      (ap (λ (hs : List Hold). (hold_of (record (thread_part s x.task) { holds = hs }) m).owns) holds ∙ (read-with_hold (thread_part s x.task) l m (owned_by o x.task) (holds_room s x.task l lawful.shape there lt)
+      ∙ (ap (λ (b : Bool). cond (nat_eq l.0 m.0) (owned_by o x.task) b) (lawful.owners m x.task) ∙ sym (owned x.task))))
       (λ other. lawful.owners m u
       ∙ sym (owned u ∙ (ap (λ (b : Bool). cond (nat_eq l.0 m.0) b (owned_by (owner_part s m).owner u)) (others u other).0 ∙ not_others s l m (nat_eq l.0 m.0) u refl (others u other).1)))
     where
       given : (owner_part (state_after s e) m).owner ≡ cond (nat_eq l.0 m.0) o (owner_part s m).owner
-      given = lock-left (Gives s l o) s e l m named lt (gives ∙ gives_here s l o) (gives_there s l m o)
+      given = lock-made (Gives s l o) s e x l m is named lt (gives ∙ gives_here s l o) (gives_there s l m o)
 
       owned : (v : TaskId) → owned_by (owner_part (state_after s e) m).owner v ≡ cond (nat_eq l.0 m.0) (owned_by o v) (owned_by (owner_part s m).owner v)
       owned v = ap (λ (p : Option TaskId). owned_by p v) given ∙ owned_either (nat_eq l.0 m.0) o (owner_part s m).owner v
-
--- the same of an event that comes about as x
-pub keep_owners : (s : State) (made : ℕ) (e x : Event) → IsLawful s made → e ≡ x → x.task.0 < length s.threads → (thread_after (shared s) (thread_part s x.task) x).holds ≡ (thread_part s x.task).holds
-    → ((lock : OwnerPart) → ((effect_in (shared s) (thread_part s x.task) x).lock lock).owner ≡ lock.owner) → OwnersLaw (state_after s e)
-keep_owners s made e x lawful is there holds keeps = subst (λ (y : Event). OwnersLaw (state_after s y)) (sym is) (owners_keep s made x lawful there holds keeps)
-
-pub change_owner : (s : State) (made : ℕ) (e x : Event) (l : LockId) (o : Option TaskId) → IsLawful s made → e ≡ x → (touched x.kind x).lock ≡ Some l → l.0 < length s.locks → x.task.0 < length s.threads
-    → (thread_after (shared s) (thread_part s x.task) x).holds ≡ with_hold (thread_part s x.task) l (owned_by o x.task) → ((effect_in (shared s) (thread_part s x.task) x).lock (owner_part s l)).owner ≡ o
-    → ((u : TaskId) → nat_eq x.task.0 u.0 ≡ false → (owned_by o u ≡ false) × (owned_by (owner_part s l).owner u ≡ false)) → OwnersLaw (state_after s e)
-change_owner s made e x l o lawful is named lt there holds gives others = subst (λ (y : Event). OwnersLaw (state_after s y)) (sym is) (owners_change s made x lawful l o named lt there holds gives others)
 
 pub OwnersLaw-next : (s : State) (made : ℕ) (t : TaskId) (e : Event) → IsLawful s made → IsNext s t e → OwnersLaw (state_after s e)
 OwnersLaw-next s made t e lawful next = by_kind next
@@ -145,8 +135,8 @@ OwnersLaw-next s made t e lawful next = by_kind next
     by_kind (by_acquire l (is_mark is)) = keep_owners s made e _ lawful is.event is.at.task refl (λ lock. refl)
     by_kind (by_wait l (is_wait is)) = keep_owners s made e _ lawful is.event is.at.task refl (λ lock. refl)
     by_kind (by_wait l (is_again is)) = keep_owners s made e _ lawful is.event is.at.task refl (λ lock. refl)
-    by_kind (by_acquire l (is_fast is)) = change_owner s made e _ l (Some t) lawful is.event refl is.at.served is.at.task (taken l is.at.calling) refl (nobodys_before l is.owner)
+    by_kind (by_acquire l (is_fast is)) = change_owner s made e _ lawful is.event is.at.task l (Some t) refl is.at.served (taken l is.at.calling) refl (nobodys_before l is.owner)
     by_kind (by_acquire l (is_take is)) =
-        change_owner s made e _ l (Some t) lawful is.event refl is.at.served is.at.task (taken l is.at.calling) refl (nobodys_before l (unowned-can_take t (kind_of (thread_part s t) l) (owner_part s l) (task_part s t) is.can))
-    by_kind (by_release l (is_free is)) = change_owner s made e _ l None lawful is.event refl is.at.served is.at.task (holds_at (thread_part s t) (calls.Unlock l) replies.Done is.at.calling) refl (its_before l is.held)
-    by_kind (by_release l (is_give is)) = change_owner s made e _ l None lawful is.event refl is.at.served is.at.task (holds_at (thread_part s t) (calls.Unlock l) replies.Done is.at.calling) refl (its_before l is.held)
+        change_owner s made e _ lawful is.event is.at.task l (Some t) refl is.at.served (taken l is.at.calling) refl (nobodys_before l (unowned-can_take t (kind_of (thread_part s t) l) (owner_part s l) (task_part s t) is.can))
+    by_kind (by_release l (is_free is)) = change_owner s made e _ lawful is.event is.at.task l None refl is.at.served (holds_at (thread_part s t) (calls.Unlock l) replies.Done is.at.calling) refl (its_before l is.held)
+    by_kind (by_release l (is_give is)) = change_owner s made e _ lawful is.event is.at.task l None refl is.at.served (holds_at (thread_part s t) (calls.Unlock l) replies.Done is.at.calling) refl (its_before l is.held)

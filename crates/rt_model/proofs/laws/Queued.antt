@@ -1,7 +1,6 @@
 -- A next event keeps the queued law.
 use Rattle.std.proofs.Common.{◌≡◌, ℕ, ◌<◌, false, length, refl, sym, ap, ◌∙◌, subst, Option, Some, None, IfSome}
 use Rattle.std.specs.Prelude.{nat_eq, option_and_then}
-use Rattle.rt_base.specs.Kind.{spins}
 use Rattle.rt_base.specs.declared.call.Call.{Call}
 use Rattle.rt_base.specs.declared.call.Call.TheVariants as calls
 use Rattle.rt_base.specs.declared.id.LockId.{LockId}
@@ -11,28 +10,25 @@ use Rattle.rt_model.specs.declared.event_kind.EventKind.{EventKind}
 use Rattle.rt_model.specs.declared.event_kind.EventKind.TheVariants as kinds
 use Rattle.rt_model.specs.declared.phase.Phase.{Phase}
 use Rattle.rt_model.specs.declared.phase.Phase.TheVariants as phases
-use Rattle.rt_model.specs.Parts.{OwnerPart, TaskPart, ThreadPart, call_of, effective_of, kind_of}
-use Rattle.rt_model.specs.State.{State, shared, task_at, owner_part, task_part, thread_part}
+use Rattle.rt_model.specs.Parts.{OwnerPart, ThreadPart, call_of}
+use Rattle.rt_model.specs.State.{State, shared, owner_part, task_part, thread_part}
 use Rattle.rt_model.specs.Choice.{called_lock}
 use Rattle.rt_model.specs.Effect.{Around, around}
-use Rattle.rt_model.specs.events.Wait.{wait_event}
 use Rattle.rt_model.specs.Rules.{touched, effect}
 use Rattle.rt_model.specs.StateAfter.{thread_after, state_after}
 use Rattle.rt_model.specs.laws.Lawful.{IsLawful}
 use Rattle.rt_model.specs.laws.Owners.{owned_by}
 use Rattle.rt_model.specs.laws.Queued.{QueuedLaw, present_lock, awaited_in, asked_in}
-use Rattle.rt_model.proofs.Blocked.{moves, blocked-other, blocked-kept, others-blocked}
+use Rattle.rt_model.proofs.Blocked.{moves, blocked-other, blocked-kept, take-blocked, wait-blocked}
 use Rattle.rt_model.proofs.Calling.{IsIn}
-use Rattle.rt_model.proofs.CellStepLemmas.{leave_queue-blocked}
 use Rattle.rt_model.proofs.Lists.{if_some}
 use Rattle.rt_model.proofs.NextEvents.{IsNext, by_own, by_acquire, by_wait, by_release, task-IsNext}
-use Rattle.rt_model.proofs.events.Acquire.{IsMark, IsTake, is_fast, is_mark, is_take}
-use Rattle.rt_model.proofs.events.Wait.{IsWait, is_wait, is_again}
+use Rattle.rt_model.proofs.events.Acquire.{is_fast, is_mark, is_take}
+use Rattle.rt_model.proofs.events.Wait.{is_wait, is_again}
 use Rattle.rt_model.proofs.events.Release.{is_free, is_give}
-use Rattle.rt_model.proofs.Numbers.{at_each_task, other_number}
-use Rattle.rt_model.proofs.PartsAfter.{lock-keeps, lock-kept, own-made, thread-own, thread-other}
+use Rattle.rt_model.proofs.Numbers.{at_each_task}
+use Rattle.rt_model.proofs.PartsAfter.{lock-kept, thread-own, thread-other}
 use Rattle.rt_model.proofs.Waiters.{blocking, start-blocked, slow-unowned, owner_runs, phase_after_wait-Wait}
-use Rattle.rt_model.proofs.Within.{task_room}
 
 -- ---- the law at one task
 
@@ -79,7 +75,7 @@ unowned-left _ e th found lock u other is = is
 queued_other : (s : State) (e : Event) (u : TaskId) → QueuedLaw s → nat_eq e.task.0 u.0 ≡ false → IsQueuedAt (state_after s e) u
 queued_other s e u law other =
     stays s (state_after s e) u (thread-other s e u other) (blocked-other s e u other)
-    (λ l unowned. lock-keeps (λ lock. owned_by lock.owner u ≡ false) s e l unowned (λ lock. unowned-left e.kind e (thread_part s e.task) (around (shared s) (touched e.kind e)) lock u other)) law
+    (λ l unowned. lock-kept (λ lock. owned_by lock.owner u ≡ false) s e e l refl unowned (λ lock. unowned-left e.kind e (thread_part s e.task) (around (shared s) (touched e.kind e)) lock u other)) law
 
 -- ---- of the event's task
 
@@ -91,7 +87,7 @@ module _ (s : State) (made : ℕ) (e : Event) (lawful : IsLawful s made) where
 
   -- where it is the call's only event, nothing has blocked the task
   answers_at_once : (x : Event) (call : Call) → e ≡ x → IsIn s x.task phases.Start call → (thread_after (shared s) (thread_part s x.task) x).phase ≡ phases.Start → moves x.kind ≡ false → IsQueuedAt (state_after s e) x.task
-  answers_at_once x call is at start unmoved = answers x is at.task start (blocked-kept s e x.task (ap (λ (y : Event). moves y.kind) is ∙ unmoved) ∙ start-blocked s made x.task lawful call at)
+  answers_at_once x call is at start unmoved = answers x is at.task start (blocked-kept s e x x.task is unmoved ∙ start-blocked s made x.task lawful call at)
 
   -- one with no answer leaves it in this phase of its call
   goes_on : (x : Event) (l : LockId) (phase : Phase) (blocked : Option (LockId × ℕ)) → e ≡ x → x.task.0 < length s.threads → call_of (thread_part s x.task) ≡ Some (calls.Lock l)
@@ -108,24 +104,18 @@ queued_own s made t e lawful (by_own call answer is) = answers_at_once s made e 
 queued_own s made t e lawful (by_acquire l (is_fast is)) = answers_at_once s made e lawful _ (calls.Lock l) is.event is.at refl refl
 queued_own s made t e lawful (by_release l (is_free is)) = answers_at_once s made e lawful _ (calls.Unlock l) is.event is.at refl refl
 queued_own s made t e lawful (by_release l (is_give is)) = answers_at_once s made e lawful _ (calls.Unlock l) is.event is.at refl refl
-queued_own s made t e lawful (by_acquire l (is_take is)) =
-    answers s made e lawful _ is.event is.at.task refl
-    (own-made (λ v task. task.blocked ≡ None) s e _ t t is.event refl (task_room s t lawful.shape is.at.task) (record { owner = λ task was. was; other = λ task was. was; woken = λ task was. was })
-    (leave_queue-blocked (spins (kind_of (thread_part s t) l)) (task_part s t)) (λ others. absurd (other_number t.0 t.0 others refl)))
+queued_own s made t e lawful (by_acquire l (is_take is)) = answers s made e lawful _ is.event is.at.task refl (take-blocked s t e l lawful.shape is)
 queued_own s made t e lawful (by_acquire l (is_mark is)) =
     let unowned : owned_by (owner_part s l).owner t ≡ false = sym (lawful.owners l t) ∙ is.unheld in
     goes_on s made e lawful _ l phases.Slow None is.event is.at.task is.at.calling refl refl
-    (blocked-kept s e t (ap (λ (y : Event). moves y.kind) is.event) ∙ start-blocked s made t lawful (calls.Lock l) is.at) refl tt
+    (blocked-kept s e _ t is.event refl ∙ start-blocked s made t lawful (calls.Lock l) is.at) refl tt
     (lock-kept (λ lock. owned_by lock.owner t ≡ false) s e _ l is.event unowned (λ lock was. was))
 queued_own s made t e lawful (by_wait l (is_wait is)) =
     let unowned : owned_by (owner_part s l).owner t ≡ false = slow-unowned s made t lawful l is.at in
-    let at : Option (LockId × ℕ) = Some (l, effective_of (task_part s t)) in
-    let x = wait_event t l (owner_part s l) (task_part s t) (task_at (shared s) (owner_part s l).owner) in
-    goes_on s made e lawful _ l phases.Wait at is.event is.at.task is.at.calling (phase_after_wait-Wait t (Some l) (owner_part s l).owner _ (owner_runs s made l lawful is.at.served)) refl
-    (own-made (λ v task. task.blocked ≡ at) s e _ t t is.event refl (task_room s t lawful.shape is.at.task) (others-blocked s x at) refl (λ others. absurd (other_number t.0 t.0 others refl))) refl
-    (lock-kept (λ lock. owned_by lock.owner t ≡ false) s e _ l is.event unowned (λ lock was. was)) tt
+    goes_on s made e lawful _ l phases.Wait _ is.event is.at.task is.at.calling (phase_after_wait-Wait t (Some l) (owner_part s l).owner _ (owner_runs s made l lawful is.at.served)) refl
+    (wait-blocked s t e l lawful.shape is) refl (lock-kept (λ lock. owned_by lock.owner t ≡ false) s e _ l is.event unowned (λ lock was. was)) tt
 queued_own s made t e lawful (by_wait l (is_again is)) =
-    stays s (state_after s e) t (thread-own s e _ is.event is.at.task) (blocked-kept s e t (ap (λ (y : Event). moves y.kind) is.event))
+    stays s (state_after s e) t (thread-own s e _ is.event is.at.task) (blocked-kept s e _ t is.event refl)
     (λ m unowned. lock-kept (λ lock. owned_by lock.owner t ≡ false) s e _ m is.event unowned (λ lock was. was)) lawful.queued
 
 -- ---- the law

@@ -1,34 +1,32 @@
 -- A next event keeps the rows law.
-use Rattle.std.proofs.Common.{◌≡◌, ℕ, suc, ◌+◌, ◌<◌, ◌≤◌, inl, inr, true, false, not, length, List, refl, sym, ap, ◌∙◌, subst, arith, Option, Some, None, Bool, [], All}
+use Rattle.std.proofs.Common.{◌≡◌, ℕ, suc, ◌+◌, ◌<◌, ◌≤◌, inl, inr, true, false, not, length, List, refl, sym, ap, ◌∙◌, subst, arith, Option, Some, None, Bool, []}
 use Rattle.std.specs.Prelude.{slice_index_or, nat_eq, option_map}
 use Rattle.std.proofs.lemmas.List.Elements.{All-filter, All-weaker}
 use Rattle.std.proofs.lemmas.List.Kept.{AllPairs-filter}
-use Rattle.rt_base.specs.Kind.{spins}
 use Rattle.rt_base.specs.declared.call.Call.TheVariants as calls
 use Rattle.rt_base.specs.declared.id.LockId.{LockId}
 use Rattle.rt_base.specs.declared.id.TaskId.{TaskId}
 use Rattle.rt_model.specs.declared.event.Event.{Event}
 use Rattle.rt_model.specs.declared.phase.Phase.{Phase}
 use Rattle.rt_model.specs.declared.row.Row.{Row}
-use Rattle.rt_model.specs.Parts.{OwnerPart, TaskPart, effective_of, kind_of}
-use Rattle.rt_model.specs.Rows.{is_of, queued_key, insert_row, without, has_rows}
-use Rattle.rt_model.specs.State.{State, owner_part, task_part, thread_part}
+use Rattle.rt_model.specs.Parts.{OwnerPart, effective_of}
+use Rattle.rt_model.specs.Rows.{is_of, queued_key, without, has_rows}
+use Rattle.rt_model.specs.State.{State, shared, owner_part, task_part, thread_part}
 use Rattle.rt_model.specs.steps.Lock.{queued, left_by}
-use Rattle.rt_model.specs.steps.Task.{leave_queue}
-use Rattle.rt_model.specs.StateAfter.{state_after}
+use Rattle.rt_model.specs.Rules.{touched}
+use Rattle.rt_model.specs.StateAfter.{effect_in, state_after}
 use Rattle.rt_model.specs.laws.Rows.{IsAhead, IsQueue, RowsLaw, key_at}
 use Rattle.rt_model.specs.laws.Lawful.{IsLawful}
-use Rattle.rt_model.proofs.CellStepLemmas.{leave_queue-blocked, with_top-blocked, lock_woken-like}
-use Rattle.rt_model.proofs.PartsAfter.{OthersKeep, lock-made, lock-kept, task-kept, own-made}
-use Rattle.rt_model.proofs.Within.{task_room}
+use Rattle.rt_model.proofs.Blocked.{moves, rows-kept, blocked-kept, blocked-other, take-blocked, wait-blocked}
+use Rattle.rt_model.proofs.PartsAfter.{lock-made, lock-kept}
 use Rattle.rt_model.proofs.Calling.{IsIn}
 use Rattle.rt_model.proofs.NextEvents.{IsNext, by_own, by_acquire, by_wait, by_release}
 use Rattle.rt_model.proofs.events.Acquire.{IsTake, is_fast, is_mark, is_take, TakesIn}
 use Rattle.rt_model.proofs.events.Wait.{IsWait, is_wait, is_again}
 use Rattle.rt_model.proofs.events.Release.{is_free, is_give}
-use Rattle.rt_model.proofs.Queues.{IsApart, All-insert_row, insert_order, none_of, row_of-insert, row_of-insert_other, row_of-without, row_of-without_other, no_rows}
+use Rattle.rt_model.proofs.Queues.{apart, All-insert_row, insert_order, none_of, row_of-insert, row_of-insert_other, row_of-without, row_of-without_other, no_rows}
 use Rattle.rt_model.proofs.Waiters.{wait-elsewhere, slow-nowhere, slow-unqueued}
-use Rattle.rt_model.proofs.Numbers.{other_number, number_itself}
+use Rattle.rt_model.proofs.Numbers.{number_itself, at_each_task}
 
 -- ---- the queue of one lock
 
@@ -52,10 +50,6 @@ taken made t lock is =
       };
       ticket = omega arith;
     }
-
--- a new row is of another task than those queued, and has a new ticket
-apart : (t : TaskId) (key ticket : ℕ) (row : Row) → is_of t row ≡ false → row.ticket < ticket → IsApart (record { key = key; ticket = ticket; who = t.0 }) row
-apart t key ticket row other lt = record { task = λ same. other_number row.who t.0 other (sym same); ticket = λ same. absurd (omega (arith, same)) }
 
 more : (made : ℕ) (t : TaskId) (key : ℕ) (lock : OwnerPart) → queued_key t lock.rows ≡ None → IsQueueAt made lock → IsQueueAt (suc made) (queued t key lock)
 more made t key lock none is =
@@ -103,85 +97,67 @@ queue-next s made t e m lawful next = by_kind next
 abbrev HasRow : LockId → TaskId → List Row → Option (LockId × ℕ) → Type 0
 HasRow m u rows blocked = queued_key u rows ≡ key_at blocked m
 
--- rows and a task that are both as they were
-kept_row : (m : LockId) (u : TaskId) (lock other : OwnerPart) (task changed : TaskPart) → other.rows ≡ lock.rows → changed.blocked ≡ task.blocked → HasRow m u lock.rows task.blocked → HasRow m u other.rows changed.blocked
-kept_row m u lock other task changed rows blocked is = ap (queued_key u) rows ∙ (is ∙ sym (ap (λ (b : Option (LockId × ℕ)). key_at b m) blocked))
-
 key_there : (l : LockId) (k : ℕ) → Some k ≡ key_at (Some (l, k)) l
 key_there l k = rw (number_itself l.0) refl
 
 key_not_there : (l m : LockId) (k : ℕ) → nat_eq l.0 m.0 ≡ false → None ≡ key_at (Some (l, k)) m
 key_not_there l m k is = rw is refl
 
+-- where an event x of task t, on lock l, changes what t is blocked on, and the rows of l by the row of t
+row-moved : (s : State) (e x : Event) (l m : LockId) (u : TaskId) (b : Option (LockId × ℕ)) → ((k : LockId) (v : TaskId) → HasRow k v (owner_part s k).rows (task_part s v).blocked) → e ≡ x
+    → (touched x.kind x).lock ≡ Some l → l.0 < length s.locks → (task_part (state_after s e) x.task).blocked ≡ b → HasRow l x.task ((effect_in (shared s) (thread_part s x.task) x).lock (owner_part s l)).rows b
+    → ((v : TaskId) → nat_eq x.task.0 v.0 ≡ false → queued_key v ((effect_in (shared s) (thread_part s x.task) x).lock (owner_part s l)).rows ≡ queued_key v (owner_part s l).rows)
+    → (nat_eq l.0 m.0 ≡ false → key_at (task_part s x.task).blocked m ≡ key_at b m) → HasRow m u (owner_part (state_after s e) m).rows (task_part (state_after s e) u).blocked
+row-moved s e x l m u b law is named lt at own others elsewhere =
+    lock-made (λ k lock. HasRow k u lock.rows (task_part (state_after s e) u).blocked) s e x l m is named lt
+    (at_each_task (λ v. HasRow l v rows (task_part (state_after s e) v).blocked) x.task u (own ∙ its l) (λ ne. others u ne ∙ (law l u ∙ anothers l ne)))
+    (λ there. at_each_task (λ v. HasRow m v (owner_part s m).rows (task_part (state_after s e) v).blocked) x.task u (law m x.task ∙ (elsewhere there ∙ its m)) (λ ne. law m u ∙ anothers m ne))
+  where
+    rows : List Row
+    rows = ((effect_in (shared s) (thread_part s x.task) x).lock (owner_part s l)).rows
+
+    its : (k : LockId) → key_at b k ≡ key_at (task_part (state_after s e) x.task).blocked k
+    its k = sym (ap (λ (c : Option (LockId × ℕ)). key_at c k) at)
+
+    anothers : (k : LockId) → nat_eq x.task.0 u.0 ≡ false → key_at (task_part s u).blocked k ≡ key_at (task_part (state_after s e) u).blocked k
+    anothers k ne = sym (ap (λ (c : Option (LockId × ℕ)). key_at c k) (blocked-other s e u (ap (λ (y : Event). nat_eq y.task.0 u.0) is ∙ ne)))
+
 take-row : (s : State) (made : ℕ) (t : TaskId) (e : Event) (l : LockId) (is : IsTake s t l e) (m : LockId) (u : TaskId) → IsLawful s made
     → HasRow m u (owner_part (state_after s e) m).rows (task_part (state_after s e) u).blocked
 take-row s made t e l is m u lawful =
-    lock-made (λ k lock. HasRow k u lock.rows (task_part (state_after s e) u).blocked) s e _ l m is.event refl is.at.served
-    (own-made (λ v task. HasRow l v (without t (owner_part s l).rows) task.blocked) s e _ t u is.event refl there (record { owner = λ task was. was; other = λ task was. was; woken = λ task was. was })
-    (ap (option_map (λ (r : Row). r.key)) (row_of-without t (owner_part s l).rows) ∙ sym (unblocked_key l))
-    (λ others. ap (option_map (λ (r : Row). r.key)) (row_of-without_other t u (owner_part s l).rows others) ∙ lawful.rows.rows l u))
-    (λ apart. own-made (λ v task. HasRow m v (owner_part s m).rows task.blocked) s e _ t u is.event refl there (record { owner = λ task was. was; other = λ task was. was; woken = λ task was. was })
-    (lawful.rows.rows m t ∙ (elsewhere apart is.queued ∙ sym (unblocked_key m)))
-    (λ others. lawful.rows.rows m u))
+    row-moved s e _ l m u None lawful.rows.rows is.event refl is.at.served (take-blocked s t e l lawful.shape is) (ap (option_map (λ (r : Row). r.key)) (row_of-without t (owner_part s l).rows))
+    (λ v ne. ap (option_map (λ (r : Row). r.key)) (row_of-without_other t v (owner_part s l).rows ne)) (elsewhere is.queued)
   where
-    there : t.0 < length s.tasks
-    there = task_room s t lawful.shape is.at.task
-
-    unblocked_key : (k : LockId) → key_at (leave_queue (spins (kind_of (thread_part s t) l)) (task_part s t)).blocked k ≡ None
-    unblocked_key k = ap (λ (b : Option (LockId × ℕ)). key_at b k) (leave_queue-blocked (spins (kind_of (thread_part s t) l)) (task_part s t))
-
-    elsewhere : nat_eq l.0 m.0 ≡ false → TakesIn s t is.phase → key_at (task_part s t).blocked m ≡ None
-    elsewhere there (inl slow) = slow-nowhere s made t lawful m (calls.Lock l) (subst (λ (p : Phase). IsIn s t p (calls.Lock l)) slow is.at)
-    elsewhere there (inr waiting) = wait-elsewhere s made t lawful l m (subst (λ (p : Phase). IsIn s t p (calls.Lock l)) waiting.0 is.at) there
+    elsewhere : TakesIn s t is.phase → nat_eq l.0 m.0 ≡ false → key_at (task_part s t).blocked m ≡ None
+    elsewhere (inl slow) there = slow-nowhere s made t lawful m (calls.Lock l) (subst (λ (p : Phase). IsIn s t p (calls.Lock l)) slow is.at)
+    elsewhere (inr waiting) there = wait-elsewhere s made t lawful l m (subst (λ (p : Phase). IsIn s t p (calls.Lock l)) waiting.0 is.at) there
 
 wait-row : (s : State) (made : ℕ) (t : TaskId) (e : Event) (l : LockId) (is : IsWait s t l e) (m : LockId) (u : TaskId) → IsLawful s made
     → HasRow m u (owner_part (state_after s e) m).rows (task_part (state_after s e) u).blocked
 wait-row s made t e l is m u lawful =
-    lock-made (λ k lock. HasRow k u lock.rows (task_part (state_after s e) u).blocked) s e _ l m is.event refl is.at.served
-    (own-made (λ v task. HasRow l v (insert_row row (owner_part s l).rows) task.blocked) s e _ t u is.event refl there (record { owner = λ task was. was; other = λ task was. was; woken = λ task was. was })
+    let key : ℕ = effective_of (task_part s t) in
+    let row : Row = record { key = key; ticket = (owner_part s l).ticket; who = t.0 } in
+    let none = none_of t (owner_part s l).rows (slow-unqueued s made t lawful l (calls.Lock l) is.at) in
+    row-moved s e _ l m u (Some (l, key)) lawful.rows.rows is.event refl is.at.served (wait-blocked s t e l lawful.shape is)
     (ap (option_map (λ (r : Row). r.key)) (row_of-insert t row (owner_part s l).rows (number_itself t.0) none) ∙ key_there l key)
-    (λ others. ap (option_map (λ (r : Row). r.key)) (row_of-insert_other u row (owner_part s l).rows others) ∙ lawful.rows.rows l u))
-    (λ apart. own-made (λ v task. HasRow m v (owner_part s m).rows task.blocked) s e _ t u is.event refl there (record { owner = λ task was. was; other = λ task was. was; woken = λ task was. was })
-    (lawful.rows.rows m t ∙ (slow-nowhere s made t lawful m (calls.Lock l) is.at ∙ key_not_there l m key apart))
-    (λ others. lawful.rows.rows m u))
-  where
-    there : t.0 < length s.tasks
-    there = task_room s t lawful.shape is.at.task
-
-    key : ℕ
-    key = effective_of (task_part s t)
-
-    row : Row
-    row = record { key = key; ticket = (owner_part s l).ticket; who = t.0 }
-
-    none : All (λ (r : Row). is_of t r ≡ false) (owner_part s l).rows
-    none = none_of t (owner_part s l).rows (slow-unqueued s made t lawful l (calls.Lock l) is.at)
+    (λ v ne. ap (option_map (λ (r : Row). r.key)) (row_of-insert_other v row (owner_part s l).rows ne)) (λ there. slow-nowhere s made t lawful m (calls.Lock l) is.at ∙ key_not_there l m key there)
 
 row-next : (s : State) (made : ℕ) (t : TaskId) (e : Event) (m : LockId) (u : TaskId) → IsLawful s made → IsNext s t e
     → HasRow m u (owner_part (state_after s e) m).rows (task_part (state_after s e) u).blocked
 row-next s made t e m u lawful next = by_kind next
   where
-    Rows : OwnerPart → Type 0
-    Rows lock = lock.rows ≡ (owner_part s m).rows
-
-    Same : TaskPart → Type 0
-    Same task = task.blocked ≡ (task_part s u).blocked
-
-    by_same : Rows (owner_part (state_after s e) m) → Same (task_part (state_after s e) u) → HasRow m u (owner_part (state_after s e) m).rows (task_part (state_after s e) u).blocked
-    by_same rows blocked = kept_row m u (owner_part s m) (owner_part (state_after s e) m) (task_part s u) (task_part (state_after s e) u) rows blocked (lawful.rows.rows m u)
+    still : (x : Event) → e ≡ x → moves x.kind ≡ false → HasRow m u (owner_part (state_after s e) m).rows (task_part (state_after s e) u).blocked
+    still x is unmoved = ap (queued_key u) (rows-kept s e x m is unmoved) ∙ (lawful.rows.rows m u ∙ sym (ap (λ (b : Option (LockId × ℕ)). key_at b m) (blocked-kept s e x u is unmoved)))
 
     by_kind : IsNext s t e → HasRow m u (owner_part (state_after s e) m).rows (task_part (state_after s e) u).blocked
-    by_kind (by_own call answer is) = by_same (lock-kept Rows s e _ m is.event refl (λ lock was. was)) (task-kept Same s e _ u is.event refl (λ task was. was) (record { owner = λ task was. was; other = λ task was. was; woken = λ task was. was }))
-    by_kind (by_acquire l (is_fast is)) = by_same (lock-kept Rows s e _ m is.event refl (λ lock was. was)) (task-kept Same s e _ u is.event refl (λ task was. was) (record { owner = λ task was. was; other = λ task was. was; woken = λ task was. was }))
-    by_kind (by_acquire l (is_mark is)) = by_same (lock-kept Rows s e _ m is.event refl (λ lock was. was)) (task-kept Same s e _ u is.event refl (λ task was. was) (record { owner = λ task was. was; other = λ task was. was; woken = λ task was. was }))
     by_kind (by_acquire l (is_take is)) = take-row s made t e l is m u lawful
     by_kind (by_wait l (is_wait is)) = wait-row s made t e l is m u lawful
-    by_kind (by_wait l (is_again is)) = by_same (lock-kept Rows s e _ m is.event refl (λ lock was. was)) (task-kept Same s e _ u is.event refl (λ task was. was) (record { owner = λ task was. was; other = λ task was. was; woken = λ task was. was }))
-    by_kind (by_release l (is_free is)) = by_same (lock-kept Rows s e _ m is.event refl (λ lock was. was)) (task-kept Same s e _ u is.event refl (λ task was. was) (record { owner = λ task was. was; other = λ task was. was; woken = λ task was. was }))
-    by_kind (by_release l (is_give is)) =
-        by_same (lock-kept Rows s e _ m is.event refl (λ lock was. was))
-        (task-kept Same s e _ u is.event refl (λ task was. with_top-blocked (Some l) None task ∙ was)
-        (record { owner = λ task was. was; other = λ task was. was; woken = λ task was. (lock_woken-like (spins (kind_of (thread_part s t) l)) task).blocked ∙ was }))
+    by_kind (by_own call answer is) = still _ is.event refl
+    by_kind (by_acquire l (is_fast is)) = still _ is.event refl
+    by_kind (by_acquire l (is_mark is)) = still _ is.event refl
+    by_kind (by_wait l (is_again is)) = still _ is.event refl
+    by_kind (by_release l (is_free is)) = still _ is.event refl
+    by_kind (by_release l (is_give is)) = still _ is.event refl
 
 -- rows law
 pub RowsLaw-next : (s : State) (made : ℕ) (t : TaskId) (e : Event) → IsLawful s made → IsNext s t e → RowsLaw (state_after s e) (suc made)

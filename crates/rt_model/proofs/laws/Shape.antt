@@ -1,5 +1,5 @@
 -- An event leaves a state in shape, and one of its script.
-use Rattle.std.proofs.Common.{◌≡◌, ℕ, zero, suc, ◌<◌, List, [], ◌∷◌, length, map, not, refl, sym, ap, ◌∙◌, subst, arith, Option, Some, None, All, IfSome, length-set, unwrap_or}
+use Rattle.std.proofs.Common.{◌≡◌, ℕ, zero, suc, ◌<◌, List, [], ◌∷◌, length, map, not, refl, sym, ap, ◌∙◌, subst, Option, Some, None, All, IfSome, length-set, unwrap_or}
 use Rattle.std.specs.Prelude.{slice_get}
 use Rattle.std.proofs.lemmas.List.Elements.{All-filter}
 use Rattle.rt_base.specs.Kind.{spins}
@@ -20,13 +20,14 @@ use Rattle.rt_model.specs.State.{State, Shared, shared, thread_part, kinds_in}
 use Rattle.rt_model.specs.steps.Task.{rest_of}
 use Rattle.rt_model.specs.Effect.{Touched, Around, Effect, around}
 use Rattle.rt_model.specs.Rules.{touched, effect}
-use Rattle.rt_model.specs.StateAfter.{update, at_task, effect_in, lock_left, tasks_left, shared_after, thread_after, state_after}
+use Rattle.rt_model.specs.StateAfter.{update, effect_in, lock_left, tasks_left, shared_after, thread_after, state_after}
 use Rattle.rt_model.specs.steps.Thread.{holds_after, answered_with}
 use Rattle.rt_model.specs.Stage.{IsServed, IsStaged}
 use Rattle.rt_model.specs.laws.Shape.{IsShaped, IsOf, SameSize}
 use Rattle.rt_model.proofs.Lists.{length-update, All-update, All-default, length-at_lock, length-at_task, All-at_lock, All-at_task}
 use Rattle.rt_model.proofs.Queues.{All-insert_row}
 use Rattle.rt_model.proofs.CellStepLemmas.{leave_queue-like, blocked_on-like, lock_woken-like, length-with_top}
+use Rattle.rt_model.proofs.PartsAfter.{OthersKeep, thread-phase}
 use Rattle.rt_model.proofs.Within.{HoldsFit}
 use Rattle.std.proofs.lemmas.List.{length-map}
 
@@ -64,38 +65,25 @@ rows-left n _ e th found lt lock all = all
 
 -- ---- a task
 
-record KeepsLong (f : Effect) (lock : OwnerPart) : Type 0 where
-  own : (task : TaskPart) → length (f.own lock task).kept ≡ length task.kept
-  owner : (task : TaskPart) → length (f.owner lock task).kept ≡ length task.kept
-  other : (task : TaskPart) → length (f.other lock task).kept ≡ length task.kept
-  woken : (task : TaskPart) → length (f.woken lock task).kept ≡ length task.kept
+fits-own : (n : ℕ) (kind : EventKind) (e : Event) (th : ThreadPart) (found : Around) (lock : OwnerPart) (task : TaskPart) → KeptFits n task → KeptFits n ((effect kind e th found).own lock task)
+fits-own n kinds.Take e th found lock task fits = length-with_top e.lock _ _ ∙ (ap length (leave_queue-like (spins (kind_named th e.lock)) task).kept ∙ fits)
+fits-own n kinds.Wait e th found lock task fits = ap length (blocked_on-like e.lock (rest_of (kind_named th e.lock) (call_of th)) task).kept ∙ fits
+fits-own n kinds.Give e th found lock task fits = length-with_top e.lock None task ∙ fits
+fits-own n _ e th found lock task fits = fits
 
-long-left : (kind : EventKind) (e : Event) (th : ThreadPart) (found : Around) (lock : OwnerPart) → KeepsLong (effect kind e th found) lock
-long-left kinds.Take e th found lock = record {
-  own = λ task. length-with_top e.lock _ _ ∙ ap length (leave_queue-like (spins (kind_named th e.lock)) task).kept;
-  owner = λ task. refl; other = λ task. refl; woken = λ task. refl;
-}
-long-left kinds.Wait e th found lock = record {
-  own = λ task. ap length (blocked_on-like e.lock (rest_of (kind_named th e.lock) (call_of th)) task).kept;
-  owner = λ task. length-with_top e.lock _ task; other = λ task. refl; woken = λ task. refl;
-}
-long-left kinds.Give e th found lock = record {
-  own = λ task. length-with_top e.lock None task;
-  owner = λ task. refl; other = λ task. refl; woken = λ task. ap length (lock_woken-like (spins (kind_named th e.lock)) task).like.kept;
-}
-long-left _ e th found lock = record { own = λ task. refl; owner = λ task. refl; other = λ task. refl; woken = λ task. refl }
+fits-others : (n : ℕ) (kind : EventKind) (e : Event) (th : ThreadPart) (found : Around) (lock : OwnerPart) → OthersKeep (KeptFits n) (effect kind e th found) lock
+fits-others n kinds.Wait e th found lock = record { owner = λ task fits. length-with_top e.lock _ task ∙ fits; other = λ task fits. fits; woken = λ task fits. fits }
+fits-others n kinds.Give e th found lock = record { owner = λ task fits. fits; other = λ task fits. fits; woken = λ task fits. ap length (lock_woken-like (spins (kind_named th e.lock)) task).like.kept ∙ fits }
+fits-others n _ e th found lock = record { owner = λ task fits. fits; other = λ task fits. fits; woken = λ task fits. fits }
 
 -- ---- a thread
 
--- what the thread's change and an answer leave
+-- what an event leaves as it was
 pub record KeepsThread (before after : ThreadPart) : Type 0 where
   pub kinds : after.kinds ≡ before.kinds
   pub calls : after.calls ≡ before.calls
+  pub cpu : after.cpu ≡ before.cpu
   pub holds : length after.holds ≡ length before.holds
-
-phase-left : (kind : EventKind) (e : Event) (th : ThreadPart) (found left : Around) (old : ThreadPart) → KeepsThread old ((effect kind e th found).thread left old)
-phase-left kinds.Mark e th found left old = record { kinds = refl; calls = refl; holds = refl }
-phase-left _ e th found left old = record { kinds = refl; calls = refl; holds = refl }
 
 length-holds_after : (thread : ThreadPart) (call : Option Call) (answer : Reply) → length (holds_after thread call answer) ≡ length thread.holds
 length-holds_after thread (Some (calls.Lock l)) replies.Got = simp length-set
@@ -103,35 +91,38 @@ length-holds_after thread (Some (calls.Unlock l)) replies.Done = simp length-set
 length-holds_after thread call answer = refl
 
 answer-left : (thread : ThreadPart) (reply : Option Reply) → KeepsThread thread (answered_with thread reply)
-answer-left thread None = record { kinds = refl; calls = refl; holds = refl }
-answer-left thread (Some answer) = record { kinds = refl; calls = refl; holds = length-holds_after thread (call_of thread) answer }
+answer-left thread None = record { kinds = refl; calls = refl; cpu = refl; holds = refl }
+answer-left thread (Some answer) = record { kinds = refl; calls = refl; cpu = refl; holds = length-holds_after thread (call_of thread) answer }
 
 pub thread-keeps : (sh : Shared) (th : ThreadPart) (e : Event) → KeepsThread th (thread_after sh th e)
 thread-keeps sh th e =
-    let phased = phase-left e.kind e th (around sh (touched e.kind e)) (around (shared_after sh th e) (touched e.kind e)) th in
-    let answered = answer-left ((effect_in sh th e).thread (around (shared_after sh th e) (touched e.kind e)) th) e.reply in
-    record { kinds = answered.kinds ∙ phased.kinds; calls = answered.calls ∙ phased.calls; holds = answered.holds ∙ phased.holds }
+    let left = around (shared_after sh th e) (touched e.kind e) in
+    let moved = thread-phase e.kind e th (around sh (touched e.kind e)) left th in
+    let answered = answer-left ((effect_in sh th e).thread left th) e.reply in
+    record {
+      kinds = answered.kinds ∙ ap (λ (thread : ThreadPart). thread.kinds) moved;
+      calls = answered.calls ∙ ap (λ (thread : ThreadPart). thread.calls) moved;
+      cpu = answered.cpu ∙ ap (λ (thread : ThreadPart). thread.cpu) moved;
+      holds = answered.holds ∙ ap (λ (thread : ThreadPart). length thread.holds) moved;
+    }
 
 -- ---- the state
 
-tasks-keep : (P : TaskPart → Type 0) (named : Touched) (f : Effect) (lock : OwnerPart) (xs : List TaskPart) → ((task : TaskPart) → P task → P (f.own lock task)) → ((task : TaskPart) → P task → P (f.owner lock task))
-    → ((task : TaskPart) → P task → P (f.other lock task)) → ((task : TaskPart) → P task → P (f.woken lock task)) → All P xs → All P (tasks_left named f lock xs)
-tasks-keep P named f lock xs own owner other woken all =
-    All-at_task P _ named.woken (f.woken lock) woken (All-at_task P _ named.other (f.other lock) other (All-at_task P _ named.owner (f.owner lock) owner (All-at_task P xs named.own (f.own lock) own all)))
+tasks-keep : (P : TaskPart → Type 0) (named : Touched) (f : Effect) (lock : OwnerPart) (xs : List TaskPart) → ((task : TaskPart) → P task → P (f.own lock task)) → OthersKeep P f lock → All P xs → All P (tasks_left named f lock xs)
+tasks-keep P named f lock xs own others all =
+    All-at_task P _ named.woken (f.woken lock) others.woken (All-at_task P _ named.other (f.other lock) others.other
+    (All-at_task P _ named.owner (f.owner lock) others.owner (All-at_task P xs named.own (f.own lock) own all)))
 
 length-tasks : (named : Touched) (f : Effect) (lock : OwnerPart) (xs : List TaskPart) → length (tasks_left named f lock xs) ≡ length xs
 length-tasks named f lock xs =
     length-at_task _ named.woken (f.woken lock) ∙ (length-at_task _ named.other (f.other lock) ∙ (length-at_task _ named.owner (f.owner lock) ∙ length-at_task xs named.own (f.own lock)))
 
 module _ (s : State) (e : Event) (lt : e.task.0 < length s.threads) where
-  f : Effect
-  f = effect_in (shared s) (thread_part s e.task) e
-
-  lock : OwnerPart
-  lock = lock_left (shared s) (thread_part s e.task) e
-
   locks : length (state_after s e).locks ≡ length s.locks
   locks = length-at_lock s.locks (touched e.kind e).lock (effect_in (shared s) (thread_part s e.task) e).lock
+
+  tasks : length (state_after s e).tasks ≡ length s.tasks
+  tasks = length-tasks (touched e.kind e) (effect_in (shared s) (thread_part s e.task) e) (lock_left (shared s) (thread_part s e.task) e) s.tasks
 
   threads : length (state_after s e).threads ≡ length s.threads
   threads = length-update s.threads e.task.0 _
@@ -142,21 +133,23 @@ module _ (s : State) (e : Event) (lt : e.task.0 < length s.threads) where
 
   pub IsShaped-after : IsShaped s → IsShaped (state_after s e)
   IsShaped-after shaped =
-      let long = long-left e.kind e (thread_part s e.task) (around (shared s) (touched e.kind e)) (lock_left (shared s) (thread_part s e.task) e) in
+      let th = thread_part s e.task in
+      let found = around (shared s) (touched e.kind e) in
+      let lock = lock_left (shared s) th e in
       let n = length s.locks in
       record {
         few_tasks = rw threads shaped.few_tasks;
         few_locks = rw locks shaped.few_locks;
         readers = length-at_lock s.readers (touched e.kind e).readers _ ∙ (shaped.readers ∙ sym locks);
-        tasks = length-tasks (touched e.kind e) (effect_in (shared s) (thread_part s e.task) e) (lock_left (shared s) (thread_part s e.task) e) s.tasks ∙ (shaped.tasks ∙ sym threads);
+        tasks = tasks ∙ (shaped.tasks ∙ sym threads);
         kept = subst (λ (k : ℕ). All (KeptFits k) (state_after s e).tasks) (sym locks)
-            (tasks-keep (KeptFits n) (touched e.kind e) (effect_in (shared s) (thread_part s e.task) e) (lock_left (shared s) (thread_part s e.task) e) s.tasks (λ task is. long.own task ∙ is) (λ task is. long.owner task ∙ is) (λ task is. long.other task ∙ is) (λ task is. long.woken task ∙ is) shaped.kept);
+            (tasks-keep (KeptFits n) (touched e.kind e) (effect_in (shared s) th e) lock s.tasks (fits-own n e.kind e th found lock) (fits-others n e.kind e th found lock) shaped.kept);
         kinds = subst (λ (k : ℕ). All (KindsFit k) (state_after s e).threads) (sym locks) (threads-keep (KindsFit n) (λ after is was. ap length is.kinds ∙ was) shaped.kinds);
         holds = subst (λ (k : ℕ). All (HoldsFit k) (state_after s e).threads) (sym locks) (threads-keep (HoldsFit n) (λ after is was. is.holds ∙ was) shaped.holds);
         owners = subst (λ (k : ℕ). All (OwnerIn k) (state_after s e).locks) (sym threads)
-            (All-at_lock (OwnerIn (length s.threads)) s.locks (touched e.kind e).lock _ (owner-left (length s.threads) e.kind e (thread_part s e.task) (around (shared s) (touched e.kind e)) lt) shaped.owners);
+            (All-at_lock (OwnerIn (length s.threads)) s.locks (touched e.kind e).lock _ (owner-left (length s.threads) e.kind e th found lt) shaped.owners);
         rows = subst (λ (k : ℕ). All (RowsIn k) (state_after s e).locks) (sym threads)
-            (All-at_lock (RowsIn (length s.threads)) s.locks (touched e.kind e).lock _ (rows-left (length s.threads) e.kind e (thread_part s e.task) (around (shared s) (touched e.kind e)) lt) shaped.rows);
+            (All-at_lock (RowsIn (length s.threads)) s.locks (touched e.kind e).lock _ (rows-left (length s.threads) e.kind e th found lt) shaped.rows);
       }
 
   -- how far the stage goes
@@ -179,7 +172,7 @@ pub IsOf-after : (script : Script) (s : State) (e : Event) → e.task.0 < length
 IsOf-after script s e lt is = record {
   locks = length-at_lock s.locks (touched e.kind e).lock _ ∙ is.locks;
   readers = length-at_lock s.readers (touched e.kind e).readers _ ∙ is.readers;
-  tasks = length-tasks (touched e.kind e) (effect_in (shared s) (thread_part s e.task) e) (lock_left (shared s) (thread_part s e.task) e) s.tasks ∙ is.tasks;
+  tasks = tasks s e lt ∙ is.tasks;
   kinds = threads-keep s e lt (λ (thread : ThreadPart). thread.kinds ≡ kinds_in script) (λ after keeps was. keeps.kinds ∙ was) is.kinds;
   calls = map-write (λ (thread : ThreadPart). thread.calls) s.threads e.task.0 _ _ (thread-keeps (shared s) (thread_part s e.task) e).calls ∙ is.calls;
 }

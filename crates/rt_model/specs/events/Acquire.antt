@@ -8,11 +8,11 @@ use Rattle.rt_base.specs.declared.reply.Reply.TheVariants.{Got}
 use Rattle.rt_model.specs.declared.event.Event.{Event}
 use Rattle.rt_model.specs.declared.event_kind.EventKind.TheVariants as kinds
 use Rattle.rt_model.specs.declared.phase.Phase.TheVariants.{Slow}
-use Rattle.rt_model.specs.Parts.{OwnerPart, TaskPart, ThreadPart, effective_of, kind_named}
+use Rattle.rt_model.specs.Parts.{OwnerPart, TaskPart, effective_of, kind_named}
 use Rattle.rt_model.specs.Rows.{can_take}
 use Rattle.rt_model.specs.steps.Lock.{taken_by}
 use Rattle.rt_model.specs.steps.Task.{refreshed, leave_queue}
-use Rattle.rt_model.specs.Effect.{Touched, Around, Effect, Rule, nothing, unchanged, touches_alone}
+use Rattle.rt_model.specs.Effect.{Touched, Rule, nothing, unchanged, touches_alone}
 use Rattle.rt_model.specs.Choice.{bare, boost_of}
 
 -- ---- fast, mark: a call that doesn't try gets a lock with no owner and its bit clear at once, and else sets the bit

@@ -13,7 +13,7 @@ use Rattle.rt_model.specs.declared.event.Event.{Event}
 use Rattle.rt_model.specs.declared.event_kind.EventKind.TheVariants as kinds
 use Rattle.rt_model.specs.declared.hold.Hold.{Hold}
 use Rattle.rt_model.specs.Parts.{ThreadPart, hold_of, kind_of}
-use Rattle.rt_model.specs.Effect.{Touched, Rule, nothing, touches_alone}
+use Rattle.rt_model.specs.Effect.{Rule, nothing, touches_alone}
 use Rattle.rt_model.specs.Choice.{bare, called_lock}
 
 -- ---- when it comes

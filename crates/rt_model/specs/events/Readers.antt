@@ -1,8 +1,7 @@
 -- Readers and writers: rin, rout, unbias, wtake, wsleep, wopen, wwake. No script makes one yet; what they touch is told of
 -- every event.
 use Rattle.std.specs.Prelude.{Some}
-use Rattle.rt_model.specs.declared.event.Event.{Event}
-use Rattle.rt_model.specs.Effect.{Touched, Rule, nothing, touches_alone}
+use Rattle.rt_model.specs.Effect.{Rule, nothing, touches_alone}
 
 -- the lock's reader part
 abbrev pub rin : Rule

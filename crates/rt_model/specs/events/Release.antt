@@ -6,11 +6,11 @@ use Rattle.rt_base.specs.declared.id.TaskId.{TaskId}
 use Rattle.rt_base.specs.declared.reply.Reply.TheVariants.{Done}
 use Rattle.rt_model.specs.declared.event.Event.{Event}
 use Rattle.rt_model.specs.declared.event_kind.EventKind.TheVariants as kinds
-use Rattle.rt_model.specs.Parts.{OwnerPart, TaskPart, ThreadPart, effective_of, kind_named}
+use Rattle.rt_model.specs.Parts.{OwnerPart, TaskPart, effective_of, kind_named}
 use Rattle.rt_model.specs.Rows.{top_task}
 use Rattle.rt_model.specs.steps.Lock.{given_up}
 use Rattle.rt_model.specs.steps.Task.{with_top, lock_woken}
-use Rattle.rt_model.specs.Effect.{Touched, Around, Effect, Rule, nothing, unchanged}
+use Rattle.rt_model.specs.Effect.{Rule, nothing, unchanged}
 use Rattle.rt_model.specs.Choice.{bare, boost_of}
 
 -- ---- free, give: a lock whose bit is clear is released at once, and else given up

@@ -10,10 +10,10 @@ use Rattle.rt_model.specs.declared.event_kind.EventKind.TheVariants as kinds
 use Rattle.rt_model.specs.declared.phase.Phase.{Phase}
 use Rattle.rt_model.specs.declared.phase.Phase.TheVariants as phases
 use Rattle.rt_model.specs.declared.phase.Route.TheVariants.{Full}
-use Rattle.rt_model.specs.Parts.{OwnerPart, TaskPart, ThreadPart, effective_of, kind_named, call_of}
+use Rattle.rt_model.specs.Parts.{OwnerPart, TaskPart, effective_of, kind_named, call_of}
 use Rattle.rt_model.specs.steps.Lock.{queued}
 use Rattle.rt_model.specs.steps.Task.{refreshed, rest_of, blocked_on}
-use Rattle.rt_model.specs.Effect.{Touched, Around, Effect, Rule, nothing, unchanged, touches_alone}
+use Rattle.rt_model.specs.Effect.{Rule, nothing, unchanged, touches_alone}
 use Rattle.rt_model.specs.Choice.{bare, boost_of}
 use Rattle.rt_model.specs.events.Acquire.{take_or}
 

@@ -1,7 +1,6 @@
 -- States, wakeups, priorities: state, sched, wake, setprio. No script makes one yet; what they touch is told of every event.
 use Rattle.std.specs.Prelude.{Some}
-use Rattle.rt_model.specs.declared.event.Event.{Event}
-use Rattle.rt_model.specs.Effect.{Touched, Rule, nothing, touches_alone}
+use Rattle.rt_model.specs.Effect.{Rule, nothing, touches_alone}
 
 -- the own task
 abbrev pub state : Rule

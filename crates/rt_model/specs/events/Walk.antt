@@ -1,6 +1,5 @@
 -- Chain walks: walk, walkend, restart, cycle. No script makes one yet; what they touch is told of every event.
-use Rattle.rt_model.specs.declared.event.Event.{Event}
-use Rattle.rt_model.specs.Effect.{Touched, Rule, nothing, touches_alone}
+use Rattle.rt_model.specs.Effect.{Rule, nothing, touches_alone}
 
 -- the lock on which the cursor is blocked, the cursor, the lock's owner, and a waiter that is woken
 abbrev pub walk : Rule

@@ -1,6 +1,6 @@
 -- Each task's calls, read off a list of events.
 use Rattle.std.specs.Prelude.{◌≡◌, ℕ, zero, suc, ◌<◌, Bool, true, false, List, [], ◌∷◌, length, filter, Option, Some, None, nat_eq}
-use Rattle.rt_base.specs.Script.{Script, TaskLine, task_line}
+use Rattle.rt_base.specs.Script.{Script, task_line}
 use Rattle.rt_base.specs.declared.call.Call.{Call}
 use Rattle.rt_base.specs.declared.call.Call.TheVariants as calls
 use Rattle.rt_base.specs.declared.ended.Ended.TheVariants.{Done}

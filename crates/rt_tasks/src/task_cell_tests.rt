@@ -9,22 +9,24 @@ const N: LockId = LockId(1);
 
 #[test]
 fn a_task_is_boosted_and_deboosted(rt: HostRuntime) -> Result<(), Fail> {
-    let mut cell = TaskCell::new(rt.alloc(), prio(50)?, 2)?;
-    assert_eq!(rt; (cell.own().get(), cell.effective().get()), (50, 50));
+    let (own, best, better, worse) = (prio(50)?, prio(10)?, prio(20)?, prio(60)?);
+    let mut cell = TaskCell::new(rt.alloc(), own, 2)?;
+    assert_eq!(rt; (cell.own(), cell.effective()), (own, own));
     assert_eq!(rt; (cell.kept(M), cell.keeps(M)), (None, false));
-    cell.keep_top(M, prio(20)?);
-    cell.keep_top(N, prio(10)?);
-    assert_eq!(rt; (cell.kept(M), cell.keeps(N)), (Some(prio(20)?), true));
-    assert_eq!(rt; cell.effective().get(), 10);
-    assert_eq!(rt; cell.effective_with(N, None).get(), 20);
+    cell.keep_top(M, better);
+    cell.keep_top(N, best);
+    assert_eq!(rt; (cell.kept(M), cell.keeps(N)), (Some(better), true));
+    assert_eq!(rt;
+        (cell.effective(), cell.effective_with(N, None)),
+        (best, better)
+    );
     cell.drop_top(N);
-    assert_eq!(rt; cell.effective().get(), 20);
-    cell.refresh(M, Some(prio(60)?));
-    assert_eq!(rt; cell.effective().get(), 50);
-    cell.set_own(prio(70)?);
-    assert_eq!(rt; (cell.own().get(), cell.effective().get()), (70, 60));
+    assert_eq!(rt; cell.effective(), better);
+    cell.refresh(M, Some(worse));
+    assert_eq!(rt; cell.effective(), own);
+    cell.set_own(worse);
     cell.refresh(M, None);
-    assert_eq!(rt; cell.effective().get(), 70);
+    assert_eq!(rt; (cell.own(), cell.effective()), (worse, worse));
     Ok(())
 }
 

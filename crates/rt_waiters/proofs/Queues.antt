@@ -1,14 +1,14 @@
 -- Queues: rows that come to their place and go, each of another task.
-use Rattle.std.specs.Prelude.{AllPairs, IsSome, Option}
+use Rattle.std.specs.Prelude.{IsSome, Option}
 use Rattle.std.proofs.lemmas.List.Kept.{AllPairs-filter}
-use Rattle.std.proofs.Common.{◌≡◌, ◌≢◌, All, ℕ, ◌<◌, ◌≤◌, Bool, true, false, cond, eqb, not, List, [], ◌∷◌, length, map, suc, sym, ap, ◌∙◌, Some, None, refl, ⊎_elim, arith}
+use Rattle.std.proofs.Common.{◌≡◌, ◌≢◌, All, ℕ, ◌<◌, ◌≤◌, Bool, true, false, cond, eqb, not, List, [], ◌∷◌, length, map, suc, sym, ap, subst, ◌∙◌, Some, None, refl, ⊎_elim, arith}
 use Rattle.std.specs.List.{IsDistinct, list_any, AllByRecursion}
 use Rattle.std.proofs.lemmas.Bool.{cond_both, ne_eqb, eqb-false, eqb-true, or_cases, true≢false}
 use Rattle.std.proofs.lemmas.List.Elements.{All-nil, All-cons, All-head, All-tail}
 use Rattle.std.proofs.lemmas.Map.Steps.{length-le_from_distinct_below}
 use Rattle.rt_base.specs.declared.id.TaskId.{TaskId}
 use Rattle.rt_model.specs.declared.row.Row.{Row}
-use Rattle.rt_model.specs.Rows.{is_of, row_of, goes_before, insert_row, without}
+use Rattle.rt_model.specs.Rows.{task_of, is_of, row_of, goes_before, insert_row, without}
 use Rattle.rt_model.proofs.Numbers.{at_each_task}
 use Rattle.rt_model.proofs.Queues.{row_of-insert_other, row_of-without, row_of-without_other}
 use Rattle.rt_model.proofs.Numbers.{other_number, same_number}
@@ -120,18 +120,18 @@ apart_from row (other ∷ rows) none fresh =
 
 -- ---- a queue stays one
 
-pub queued-insert : (room : ℕ) (row : Row) (rows : List Row) → row.who < room → row_of (record { 0 = row.who }) rows ≡ None → All (λ (r : Row). r.ticket ≢ row.ticket) rows
-    → IsQueued room rows → IsQueued room (insert_row row rows)
-queued-insert room row rows lt none fresh is = record {
+pub queued-insert : (room : ℕ) (row : Row) (rows new : List Row) → new ≡ insert_row row rows → row.who < room → row_of (task_of row) rows ≡ None → All (λ (r : Row). r.ticket ≢ row.ticket) rows
+    → IsQueued room rows → IsQueued room new
+queued-insert room row rows new same lt none fresh is = subst (IsQueued room) (sym same) (record {
   tasks = AreQueued-insert room row rows lt none is.tasks;
   order = insert_order row rows (apart_from row rows none fresh) is.order;
-}
+})
 
-pub queued-without : (room : ℕ) (u : TaskId) (rows : List Row) → IsQueued room rows → IsQueued room (without u rows)
-queued-without room u rows is = record {
+pub queued-without : (room : ℕ) (u : TaskId) (rows new : List Row) → new ≡ without u rows → IsQueued room rows → IsQueued room new
+queued-without room u rows new same is = subst (IsQueued room) (sym same) (record {
   tasks = AreQueued-without room u rows is.tasks;
   order = AllPairs-filter IsAhead (λ row. not (is_of u row)) rows is.order;
-}
+})
 
 -- a queued task is below the room
 pub below_room : (room : ℕ) (t : TaskId) (rows : List Row) → IsSome (row_of t rows) → AreQueued room rows → t.0 < room

@@ -1,4 +1,4 @@
-use Rattle.std.proofs.Common.{◌<◌, arith}
+use Rattle.std.proofs.Common.{arith}
 use Rattle.rt_waiters.proofs.Queues.{few_rows}
 use Rattle.rt_waiters.proofs.waiters.Waiters.len.Goals as goal
 

@@ -1,10 +1,10 @@
-pub mod Fronts
-pub mod FrontsAll
-pub mod StartCells
-pub mod PartsOf
+pub mod Prefixes
+pub mod PrefixesAll
+pub mod OwnerParts
+pub mod SharedSteps
+pub mod Starting
+pub mod Leaving
 pub mod Applying
-pub mod Queues
-pub mod Tops
+pub mod EntryWellFormed
 pub mod Notes
-pub mod Told
 pub mod ReportShort

@@ -10,9 +10,11 @@ use Rattle.rt_model.specs.declared.phase.Phase.TheVariants as phases
 use Rattle.rt_model.specs.Parts.{call_of}
 use Rattle.rt_model.specs.State.{State, task_part, thread_part}
 use Rattle.rt_model.specs.Run.{is_enabled}
-use Rattle.rt_model.specs.Laws.{IsOf, IsPhaseOf, IsLawful}
-use Rattle.rt_model.proofs.Waiters.{IsWaiting-blocked}
-use Rattle.rt_model.proofs.Starts.{IsOf-tasks, IsOf-locks}
+use Rattle.rt_model.specs.laws.Shape.{IsOf}
+use Rattle.rt_model.specs.Stage.{IsPhaseOf}
+use Rattle.rt_model.specs.laws.Lawful.{IsLawful}
+use Rattle.rt_model.proofs.Waiters.{WaitsFor-blocked}
+use Rattle.rt_model.proofs.laws.Shape.{IsOf-threads}
 use Rattle.rt_core.specs.declared.note.Note.{Note}
 use Rattle.rt_core.specs.declared.note.Note.TheVariants as notes
 use Rattle.rt_core.specs.Report.{blocked_note, phase_note, call_note, note_of, IsNoteWithin}
@@ -20,7 +22,7 @@ use Rattle.rt_core.specs.Report.{blocked_note, phase_note, call_note, note_of, I
 -- a task that is blocked is so on a lock that is there
 blocked_within : (s : State) (made : ℕ) (t : TaskId) (at : Option (LockId × ℕ)) → IsLawful s made → (task_part s t).blocked ≡ at → IsNoteWithin (length s.threads) (length s.locks) (blocked_note at)
 blocked_within s made t None lawful is = tt
-blocked_within s made t (Some at) lawful is = (IsWaiting-blocked s t at lawful.shape lawful.phases lawful.queued is).lock
+blocked_within s made t (Some at) lawful is = (WaitsFor-blocked s t at lawful.stage lawful.phases lawful.queued is).lock
 
 ready_or : (s : State) (t : TaskId) (waiting : Note) → IsNoteWithin (length s.threads) (length s.locks) waiting → IsNoteWithin (length s.threads) (length s.locks) (cond (is_enabled s t.0) notes.Ready waiting)
 ready_or s t waiting within = cond_both (is_enabled s t.0) notes.Ready waiting (IsNoteWithin (length s.threads) (length s.locks)) (λ _. tt) (λ _. within)
@@ -42,4 +44,4 @@ note_within s made t lawful = call_within s made t (call_of (thread_part s t)) l
 -- what is among the tasks and locks of a script's state is among those of the script
 pub IsNoteWithin-script : (script : Script) (s : State) (note : Note) → IsOf script s → IsNoteWithin (length s.threads) (length s.locks) note → IsNoteWithin (length script.tasks) (length script.locks) note
 IsNoteWithin-script script s note is within =
-    subst (λ (n : ℕ). IsNoteWithin (length script.tasks) n note) (IsOf-locks script s is) (subst (λ (n : ℕ). IsNoteWithin n (length s.locks) note) (IsOf-tasks script s is) within)
+    subst (λ (n : ℕ). IsNoteWithin (length script.tasks) n note) is.locks (subst (λ (n : ℕ). IsNoteWithin n (length s.locks) note) (IsOf-threads script s is) within)

@@ -2,7 +2,7 @@
 use Rattle.std.proofs.Common.{ℕ, ◌*◌, ◌<◌, ◌≤◌, ◌^◌, Bool, true, false, List, [], ◌∷◌, ◌++◌, map, length, IfSome, All, arith, length-append}
 use Rattle.std.specs.Prelude.{codes, decimal}
 use Rattle.std.proofs.lemmas.Fmt.{length-decimal-le}
-use Rattle.rt_base.specs.Script.{Script, IsScript}
+use Rattle.rt_base.specs.Script.{Script, lock_line, IsScript}
 use Rattle.rt_base.specs.declared.id.LockId.{LockId}
 use Rattle.rt_base.specs.declared.id.TaskId.{TaskId}
 use Rattle.rt_base.specs.declared.kind.Kind.{Kind}
@@ -129,7 +129,7 @@ rows_short script rows is all few = omega (arith, each_short (row_word script) (
 pub lock_line_short : (script : Script) (l : LockId) (lock : OwnerPart) (readers : ReaderCell) → IsScript script → IsLockIn script l → IsLockTold script lock readers
     → length (lock_line_of script l lock readers) < 4096
 lock_line_short script l lock readers is there told =
-    joined (codes "lock") (spaced (owner_words script l lock)) (spaced (reader_words lock.kind readers)) (spaced (map (row_word script) lock.rows)) (omega arith)
+    joined (codes "lock") (spaced (owner_words script l lock)) (spaced (reader_words (lock_line script l).kind readers)) (spaced (map (row_word script) lock.rows)) (omega arith)
     (owner_short script l lock is there told.owner)
-    (readers_short lock.kind readers told.count)
+    (readers_short (lock_line script l).kind readers told.count)
     (rows_short script lock.rows is told.rows told.few)

@@ -1,6 +1,6 @@
 -- The report: where each task and each lock stands.
 use Rattle.std.specs.Prelude.{ℕ, zero, suc, ◌+◌, ◌-◌, ◌<◌, Bool, true, false, List, [], ◌∷◌, ◌++◌, length, map, Option, Some, None, codes, decimal, nat_lt, if◌then◌else◌}
-use Rattle.rt_base.specs.Script.{Script}
+use Rattle.rt_base.specs.Script.{Script, lock_line}
 use Rattle.rt_base.specs.declared.call.Call.{Call}
 use Rattle.rt_base.specs.declared.id.LockId.{LockId}
 use Rattle.rt_base.specs.declared.id.TaskId.{TaskId}
@@ -12,7 +12,7 @@ use Rattle.rt_model.specs.declared.reader_cell.ReaderCell.{ReaderCell}
 use Rattle.rt_model.specs.declared.row.Row.{Row}
 use Rattle.rt_model.specs.Parts.{OwnerPart, TaskPart, ThreadPart, call_of, effective_of}
 use Rattle.rt_model.specs.State.{State, owner_part, reader_part, task_part, thread_part}
-use Rattle.rt_model.specs.NextEvent.{called_lock}
+use Rattle.rt_model.specs.Choice.{called_lock}
 use Rattle.rt_model.specs.Run.{is_enabled}
 use Rattle.rt_core.specs.declared.note.Note.{Note}
 use Rattle.rt_core.specs.declared.note.Note.TheVariants as notes
@@ -29,7 +29,7 @@ readers_note (Some l) = notes.Readers l
 
 abbrev pub waiting_note : Phase → TaskPart → ThreadPart → Call → Note
 waiting_note phases.Wait task thread call = blocked_note task.blocked
-waiting_note phases.WWait task thread call = readers_note (called_lock thread call)
+waiting_note phases.WWait task thread call = readers_note (called_lock thread.cpu call)
 waiting_note _ task thread call = notes.Wake
 
 abbrev pub phase_note : Phase → State → TaskId → Call → Note
@@ -102,7 +102,7 @@ owner_words script l lock = lock_word script l ∷ task_or_dash script lock.owne
 -- a lock's line: its owner, its readers, and the rows in order
 abbrev pub lock_line_of : Script → LockId → OwnerPart → ReaderCell → List ℕ
 lock_line_of script l lock readers =
-    codes "lock" ++ spaced (owner_words script l lock) ++ spaced (reader_words lock.kind readers) ++ spaced (map (row_word script) lock.rows) ++ 10 ∷ []
+    codes "lock" ++ spaced (owner_words script l lock) ++ spaced (reader_words (lock_line script l).kind readers) ++ spaced (map (row_word script) lock.rows) ++ 10 ∷ []
 
 abbrev pub lock_report : Script → State → LockId → List ℕ
 lock_report script s l = lock_line_of script l (owner_part s l) (reader_part s l)

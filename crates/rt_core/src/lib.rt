@@ -2,26 +2,17 @@
 //! that tells where tasks and locks stand.
 #![tactic(auto)]
 
-mod beginning;
-mod change;
-mod choice;
-mod filled;
-mod lock_cell;
+mod effect;
 mod machine;
 #[cfg(test)]
 mod machine_tests;
+mod next;
 mod note;
-mod refuses;
+mod playable;
 mod report;
-mod serving;
-mod task_cell;
+mod shared;
+mod start;
 mod thread;
-mod waiters;
-mod woken;
 
-pub use lock_cell::LockCell;
 pub use machine::Core;
 pub use note::Note;
-pub use task_cell::TaskCell;
-pub use waiters::Waiters;
-pub use woken::Woken;

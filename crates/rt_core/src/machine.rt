@@ -1,68 +1,59 @@
-ghost use Rattle.std.specs.Prelude.{◌≡◌, ◌↔◌, ◌<◌, ◌≤◌, ◌+◌, ◌^◌, ◌++◌, ℕ, length, false, All, IsTrue, Some, IfOk, IfSome, option_and_then, vec_len, vec_capacity};
+ghost use Rattle.std.specs.Prelude.{◌≡◌, ◌↔◌, ◌<◌, ◌≤◌, ◌+◌, ◌^◌, ◌++◌, ℕ, length, false, All, IsTrue, None, Some, IfOk, IfSome, vec_len, vec_capacity};
+ghost use Rattle.rt_base.specs.Script.{Script};
+ghost use Rattle.rt_model.specs.declared.obj.Obj.{Obj};
 ghost use Rattle.rt_model.specs.Parts.{call_of, effective_of};
-ghost use Rattle.rt_model.specs.State.{State, start, object, owner_part, task_part, thread_part};
-ghost use Rattle.rt_model.specs.NextEvent.{next_event, first_event, later_event, slow_event, wait_event, boost_of, owner_task, kind_of};
-ghost use Rattle.rt_model.specs.After.{state_after, is_blocked};
-ghost use Rattle.rt_model.specs.Steps.{with_top};
+ghost use Rattle.rt_model.specs.Stage.{HasOneMutex, IsServed};
+ghost use Rattle.rt_model.specs.State.{State, start, shared, object, owner_part, task_part, thread_part};
+ghost use Rattle.rt_model.specs.NextEvent.{next_event};
+ghost use Rattle.rt_model.specs.StateAfter.{state_after};
 ghost use Rattle.rt_model.specs.Footprint.{touches};
-ghost use Rattle.rt_model.specs.Laws.{IsOf, IsServed, IsWithin, IsLawful, AgreeOn};
 ghost use Rattle.rt_model.specs.Run.{is_done, is_stuck, is_enabled, lowest};
 ghost use Rattle.rt_model.specs.Order.{is_walking};
-ghost use Rattle.rt_model.specs.declared.obj.Obj.{Obj};
-ghost use Rattle.rt_base.specs.Script.{Script, HasOneMutex};
+ghost use Rattle.rt_model.specs.laws.Shape.{IsOf, IsWithin, SameSize};
+ghost use Rattle.rt_model.specs.laws.Lawful.{IsLawful};
+ghost use Rattle.rt_model.specs.laws.Local.{AgreeOn};
 ghost use Rattle.rt_events.specs.Entry.{entry};
 ghost use Rattle.rt_events.specs.WellFormed.{IsWellFormed};
 ghost use Rattle.rt_core.specs.Report.{IsNoteWithin, note_of, call_note, blocked_note, readers_note, report_line_of, task_report, lock_report};
-ghost use Rattle.rt_core.specs.Made.{Made};
+ghost use Rattle.rt_core.specs.Core.{Made};
 
-use crate::beginning::{lock_cells, task_cells, threads};
-use crate::change::{advance_thread, change_locks, change_tasks};
-use crate::choice::{
-    acquire_event, bare, boost_of, boost_within, may_take, own_event, queued_event, release_event,
-    spinning_holds, take_event,
-};
-use crate::filled::filled;
-use crate::lock_cell::LockCell;
+use crate::effect::make;
+use crate::next::{boost_within, next_of};
 use crate::note::Note;
-use crate::refuses::refuses;
+use crate::playable::has_one_mutex;
 use crate::report::{write_lock_line, write_task_line};
-use crate::serving::has_one_mutex;
-use crate::task_cell::TaskCell;
+use crate::shared::Shared;
+use crate::start::threads;
 use crate::thread::Thread;
-use rt_base::{Call, Kind, LockId, NoMemory, Prio, TaskId};
-use rt_model::{Event, EventKind, Phase, ReaderCell, Row};
+use rt_base::{Call, LockId, NoMemory, Prio, TaskId};
+use rt_locks::LockCell;
+use rt_model::{Event, Phase, Row};
 use rt_script::Script;
+use rt_tasks::TaskCell;
 use std::alloc::Global;
 use std::marker::Model;
 
-/// The lock machine in one of its states.
+/// The lock machine in one of its states: what all tasks share, the threads apart, and how many events
+/// were made.
 #[derive(Drop)]
 pub struct Core {
-    locks: Vec<LockCell>,
-    readers: Vec<ReaderCell>,
-    tasks: Vec<TaskCell>,
+    shared: Shared,
     threads: Vec<Thread>,
     made: u64,
 }
 
 impl Model for Core {
-    ghost use Rattle.rt_core.specs.Made.{Made};
+    ghost use Rattle.rt_core.specs.Core.{Made};
 
     ghost Value = { Made };
 
-    ghost use Rattle.rt_core.specs.Machine.{state_of, IsCore};
+    ghost use Rattle.rt_core.specs.Core.{state_of};
+    ghost use Rattle.rt_model.specs.laws.Lawful.{IsLawful};
 
-    ghost view = { λ c. record { state = state_of c.locks.items c.readers.items c.tasks.items c.threads.items; made = c.made } };
+    ghost view = { λ c. record { state = state_of c.shared c.threads.items; made = c.made } };
 
-    ghost invariant = { λ c. IsCore c.locks.items (state_of c.locks.items c.readers.items c.tasks.items c.threads.items) c.made };
+    ghost invariant = { λ c. IsLawful (state_of c.shared c.threads.items) c.made };
 }
-
-// The reader part of a lock at the start.
-const READABLE: ReaderCell = ReaderCell {
-    bias: true,
-    writer: false,
-    count: 0,
-};
 
 impl Core {
     /// Whether the machine plays a script, so far one with one lock at most, a mutex, whose tasks only
@@ -81,9 +72,7 @@ impl Core {
         ensures lawful { IfOk result (λ core. IsLawful core.state core.made) }
     {
         Ok(Core {
-            locks: lock_cells(alloc, script)?,
-            readers: filled(alloc, READABLE, script.locks())?,
-            tasks: task_cells(alloc, script)?,
+            shared: Shared::new(alloc, script)?,
             threads: threads(alloc, script)?,
             made: 0,
         })
@@ -118,14 +107,14 @@ impl Core {
         requires { t.0 < length self.now.state.threads }
         ensures { result.now ≡ task_part self.now.state t }
     {
-        &self.tasks[t.0 as usize]
+        self.shared.task(t)
     }
 
     // A task's thread.
     fn thread(&self, t: TaskId) -> &Thread
         requires { t.0 < length self.now.state.threads }
         ensures part { result.now ≡ thread_part self.now.state t }
-        ensures holds { length result.now.holds ≡ length self.now.state.locks }
+        ensures kinds { length result.now.kinds ≡ length self.now.state.locks }
         ensures lawful { IsLawful self.now.state self.now.made }
     {
         &self.threads[t.0 as usize]
@@ -139,7 +128,7 @@ impl Core {
         ensures rows { All (λ (row : Row). row.who < length self.now.state.threads) result.now.part.rows }
         ensures room { result.now.tasks ≡ length self.now.state.threads }
     {
-        &self.locks[l.0 as usize]
+        self.shared.lock(l)
     }
 
     /// How many calls of a task are answered.
@@ -198,7 +187,7 @@ impl Core {
     fn call_note(&self, t: TaskId, thread: &Thread, call: Option<Call>) -> Note
         requires task { t.0 < length self.now.state.threads }
         requires thread { thread.now ≡ thread_part self.now.state t }
-        requires served { IfSome call (IsServed (length thread.now.holds)) }
+        requires served { IfSome call (IsServed (length thread.now.kinds)) }
         ensures { result ≡ call_note self.now.state t call }
     {
         let Some(call) = call else { return Note::End };
@@ -206,148 +195,26 @@ impl Core {
             Phase::Walk(cursor, _) => Note::Walk(cursor),
             Phase::Confirm(_) => Note::Confirm,
             _ if self.next(t).is_some() => Note::Ready,
-            Phase::Wait => blocked_note(self.cell(t).place()),
+            Phase::Wait => blocked_note(self.cell(t).blocked_at()),
             Phase::WWait => readers_note(thread.called_lock(&call)),
             _ => Note::Wake,
         }
     }
 
-    /// The one event that a task may make now. Of lawful states it depends on nothing but what it touches, and its entry
-    /// is well formed for the core's script.
+    /// The one event that a task may make now. It depends on nothing but what it touches, and its entry is well formed
+    /// for the core's script. Where there is none, that depends on the task and its thread alone.
     pub fn next(&self, t: TaskId) -> Option<Event>
         requires { t.0 < length self.now.state.threads }
         ensures event { result ≡ next_event self.now.state t }
         ensures task { IfSome result (λ e. e.task ≡ t) }
         ensures within { IfSome result (IsWithin (length self.now.state.threads) (length self.now.state.locks)) }
         ensures told { IfSome result (λ e. (script : Script) (number : ℕ) → IsOf script self.now.state → number < 2 ^ 64 → IsWellFormed script (entry number e)) }
-        ensures local { IfSome result (λ e. (s : State) (made : ℕ) → IsLawful s made → AgreeOn e self.now.state s → next_event s t ≡ Some e) }
+        ensures local { IfSome result (λ e. (s : State) → AgreeOn e self.now.state s → next_event s t ≡ Some e) }
+        ensures none { result ≡ None → (s : State) → thread_part s t ≡ thread_part self.now.state t → task_part s t ≡ task_part self.now.state t → next_event s t ≡ None }
     {
-        let event = self.event_of(t);
+        let event = next_of(&self.shared, t, self.thread(t));
         boost_within(&event);
         event
-    }
-
-    // The event of the call that a task is at.
-    fn event_of(&self, t: TaskId) -> Option<Event>
-        requires { t.0 < length self.now.state.threads }
-        ensures event { result ≡ next_event self.now.state t }
-        ensures lawful { IsLawful self.now.state self.now.made }
-    {
-        let thread = self.thread(t);
-        let call = thread.call()?;
-        match thread.phase() {
-            Phase::Start => self.start_of(t, thread, &call),
-            phase => self.later_event(t, phase, thread.called_lock(&call)),
-        }
-    }
-
-    // The event of a call in phase Start: the answer that its thread gives at once, or its first event.
-    fn start_of(&self, t: TaskId, thread: &Thread, call: &Call) -> Option<Event>
-        requires task { t.0 < length self.now.state.threads }
-        requires thread { thread.now ≡ thread_part self.now.state t }
-        requires call { call_of thread.now ≡ Some call.now }
-        requires served { IsServed (length self.now.state.locks) call.now }
-        requires holds { length thread.now.holds ≡ length self.now.state.locks }
-        requires phase { thread.now.phase ≡ Phase.Start }
-        ensures { result ≡ next_event self.now.state t }
-    {
-        let lock = thread.called_lock(call);
-        let kind = self.kind_of(lock);
-        let spinning = spinning_holds(&self.locks, thread.holds());
-        let held = thread.is_held(call, lock);
-        if let Some(answer) = refuses(*call, kind, spinning, held, thread.migration()) {
-            return Some(own_event(t, lock, answer));
-        }
-        self.first_event(t, call)
-    }
-
-    // The kind of a lock.
-    fn kind_of(&self, lock: Option<LockId>) -> Option<Kind>
-        requires { IfSome lock (λ l. l.0 < length self.now.state.locks) }
-        ensures { result ≡ kind_of self.now.state lock }
-    {
-        match lock {
-            Some(l) => Some(self.locks[l.0 as usize].kind()),
-            None => None,
-        }
-    }
-
-    // The first event of a call that isn't answered by its thread alone.
-    fn first_event(&self, t: TaskId, call: &Call) -> Option<Event>
-        requires task { t.0 < length self.now.state.threads }
-        requires served { IsServed (length self.now.state.locks) call.now }
-        ensures { result ≡ first_event self.now.state t call.now }
-    {
-        match call {
-            Call::Lock(l) => Some(acquire_event(t, *l, self.lock(*l))),
-            Call::Unlock(l) => Some(release_event(t, *l, self.lock(*l), self.cell(t))),
-            _ => None,
-        }
-    }
-
-    // The event of a call on a lock that isn't in its first phase.
-    fn later_event(&self, t: TaskId, phase: Phase, lock: Option<LockId>) -> Option<Event>
-        requires task { t.0 < length self.now.state.threads }
-        requires lock { IfSome lock (λ l. l.0 < length self.now.state.locks) }
-        ensures { result ≡ later_event phase self.now.state t lock }
-    {
-        let l = lock?;
-        match phase {
-            Phase::Slow => Some(self.slow_event(t, l)),
-            Phase::Wait => queued_event(t, l, self.lock(l), self.cell(t)),
-            _ => None,
-        }
-    }
-
-    // The event of a call that has set the bit.
-    fn slow_event(&self, t: TaskId, l: LockId) -> Event
-        requires task { t.0 < length self.now.state.threads }
-        requires lock { l.0 < length self.now.state.locks }
-        ensures { result ≡ slow_event t l (owner_part self.now.state l) (task_part self.now.state t) (owner_task self.now.state (owner_part self.now.state l)) }
-    {
-        let (lock, task) = (self.lock(l), self.cell(t));
-        if may_take(t, lock, task) {
-            take_event(t, l, lock, task)
-        } else {
-            self.wait_event(t, l)
-        }
-    }
-
-    // Is queued behind the lock's owner, `task_blocks_on_rt_mutex`.
-    fn wait_event(&self, t: TaskId, l: LockId) -> Event
-        requires task { t.0 < length self.now.state.threads }
-        requires lock { l.0 < length self.now.state.locks }
-        ensures { result ≡ wait_event t l (owner_part self.now.state l) (task_part self.now.state t) (owner_task self.now.state (owner_part self.now.state l)) }
-    {
-        let lock = self.lock(l);
-        let top = lock.top_key_with(t, self.cell(t).effective());
-        Event {
-            lock: Some(l),
-            owner: lock.owner(),
-            boost: self.owner_boost(l, lock.owner(), top),
-            ..bare(t, EventKind::Wait)
-        }
-    }
-
-    // What a new top waiter of a lock changes of its owner's priority.
-    fn owner_boost(&self, l: LockId, owner: Option<TaskId>, top: Prio) -> Option<(TaskId, Prio)>
-        requires owner { IfSome owner (λ t. t.0 < length self.now.state.threads) }
-        ensures { result ≡ option_and_then (λ t. boost_of t (effective_of (task_part self.now.state t)) (effective_of (with_top (Some l) (Some top) (task_part self.now.state t)))) owner }
-    {
-        let owner = owner?;
-        let task = self.cell(owner);
-        boost_of(owner, task.effective(), task.effective_with(l, Some(top)))
-    }
-
-    // Whether a task waits for a lock.
-    fn is_blocked(&self, task: Option<TaskId>) -> bool
-        requires { IfSome task (λ t. t.0 < length self.now.state.threads) }
-        ensures { result ≡ is_blocked self.now.state task }
-    {
-        match task {
-            Some(t) => self.cell(t).blocked().is_some(),
-            None => false,
-        }
     }
 
     /// Makes an event: the next one of its task.
@@ -357,22 +224,15 @@ impl Core {
         ensures state { self.new.state ≡ state_after self.old.state e.now }
         ensures made { self.new.made ≡ self.old.made + 1 }
 
-        // Of lawful states, what the event leaves of what it touches depends on nothing else; and all else stays.
-        ensures local { (s : State) (made : ℕ) → IsLawful s made → AgreeOn e.now self.old.state s → AgreeOn e.now self.new.state (state_after s e.now) }
+        // What the event leaves of what it touches depends on nothing else, and all else stays.
+        ensures local { (s : State) → SameSize self.old.state s → AgreeOn e.now self.old.state s → AgreeOn e.now self.new.state (state_after s e.now) }
         ensures frame { (o : Obj) → touches e.now o ≡ false → object self.new.state o ≡ object self.old.state o }
 
         // The core is still one of its script, and lawful.
         ensures script { (script : Script) → IsOf script self.old.state → IsOf script self.new.state }
         ensures lawful { IsLawful self.new.state self.new.made }
     {
-        let prio = self.effective(e.task);
-        let call = self.threads[e.task.0 as usize].call();
-        let owner_blocked = self.is_blocked(e.owner);
-        // So far every event is on a lock, which the condition says.
-        let Some(l) = e.lock else { return };
-        change_locks(&mut self.locks, e, prio);
-        change_tasks(&mut self.tasks, e, call, l, &self.locks[l.0 as usize]);
-        advance_thread(&mut self.threads, e, owner_blocked);
+        make(&mut self.shared, &mut self.threads[e.task.0 as usize], e);
         self.made += 1;
     }
 }
@@ -416,8 +276,7 @@ impl Core {
         ensures short { length (lock_report script.now self.now.state l) < 4096 }
         ensures capacity { vec_capacity out.old ≤ vec_capacity out.new }
     {
-        let readers = self.readers[l.0 as usize];
-        write_lock_line(script, l, self.lock(l), readers, out);
+        write_lock_line(script, l, self.lock(l), self.shared.readers(l), out);
     }
 }
 

@@ -1,8 +1,9 @@
-ghost use Rattle.rt_model.specs.Laws.{IsOf};
+ghost use Rattle.rt_model.specs.laws.Shape.{IsOf};
 
-use crate::{Core, LockCell, Note};
-use rt_base::{LockId, Prio, Reply, TaskId, TaskState};
+use crate::{Core, Note};
+use rt_base::{Kind, LockId, Prio, Reply, TaskId, TaskState};
 use rt_model::{Event, EventKind, Reason, Row};
+use rt_locks::LockCell;
 use rt_script::{Script, read_script};
 use std::alloc::Global;
 use std::process::Abort;
@@ -171,7 +172,7 @@ fn b_waits(rt: &impl Abort, core: &Core) -> Result<(), Fail> {
     assert_eq!(rt; core.note(B), Note::Lock(LOCK, prio(20)?));
     assert_eq!(rt; core.effective(A).get(), 20);
     assert_eq!(rt; core.cell(A).effective_with(LOCK, None).get(), 50);
-    assert_eq!(rt; core.cell(B).place(), Some((LOCK, prio(20)?)));
+    assert_eq!(rt; core.cell(B).blocked_at(), Some((LOCK, prio(20)?)));
     assert_eq!(rt; core.cell(B).blocked(), Some(LOCK));
     assert_eq!(rt; core.cell(B).state(), TaskState::Uninterruptible);
     assert_eq!(rt; core.lowest_enabled(), Some(A));
@@ -193,9 +194,9 @@ fn b_is_woken(rt: &impl Abort, core: &Core) {
 fn b_may_take(rt: &impl Abort, lock: &LockCell) -> Result<(), Fail> {
     let (better, key, worse) = (prio(19)?, prio(20)?, prio(21)?);
     assert_eq!(rt; lock.owner(), None);
-    assert_eq!(rt; lock.may_take(B, key), Some(Reason::Top));
-    assert_eq!(rt; lock.may_take(A, better), Some(Reason::Better));
-    assert_eq!(rt; lock.may_take(A, key), None);
+    assert_eq!(rt; lock.may_take(B, key, Kind::Mutex), Some(Reason::Top));
+    assert_eq!(rt; lock.may_take(A, better, Kind::Mutex), Some(Reason::Better));
+    assert_eq!(rt; lock.may_take(A, key, Kind::Mutex), None);
     assert_eq!(rt; (lock.key_of(A), lock.key_of(B)), (None, Some(key)));
     assert_eq!(rt; lock.top_key(), Some(key));
     assert_eq!(rt; lock.top_key_without(A), Some(key));
@@ -236,7 +237,7 @@ fn c_is_first(rt: &impl Abort, lock: &LockCell) {
     assert_eq!(rt; lock.top_task(), Some(C));
     assert_eq!(rt; lock.next_ticket(), 2);
     assert_eq!(rt; lock.owner(), Some(A));
-    assert!(rt; lock.bit() && !lock.kind().spins());
+    assert!(rt; lock.bit());
 }
 
 // Compares the lines of the report.

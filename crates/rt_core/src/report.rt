@@ -4,11 +4,11 @@ ghost use Rattle.rt_model.specs.Parts.{effective_of};
 ghost use Rattle.rt_events.specs.Words.{spaced};
 ghost use Rattle.rt_core.specs.Report.{bit_word, priority_words, progress_words, note_words, note_key, task_line_of, owner_words, reader_words, row_word, lock_line_of, IsNoteWithin};
 
-use crate::lock_cell::LockCell;
 use crate::note::Note;
-use crate::task_cell::TaskCell;
 use crate::thread::Thread;
 use rt_base::{Kind, LockId, TaskId};
+use rt_locks::LockCell;
+use rt_tasks::TaskCell;
 use rt_events::{
     WORD_ROOM, append, push_byte, push_digits, push_lock, push_number, push_task,
     push_task_or_dash, push_word,
@@ -123,7 +123,7 @@ pub(crate) fn write_lock_line(
     prove!(named);
     append(out, b"lock");
     push_owner(script, l, cell, out);
-    push_readers(cell.kind(), readers, out);
+    push_readers(script.kind(l), readers, out);
     push_rows(script, cell.waiters().rows(), out);
     push_byte(out, b'\n');
 }

@@ -1,16 +1,16 @@
-ghost use Rattle.std.specs.Prelude.{◌≡◌, ◌≤◌, ◌<◌, [], ◌∷◌, length, IfOk, IfSome, IsSome, All, Some, None};
-ghost use Rattle.rt_model.specs.Parts.{ThreadPart, call_of};
+ghost use Rattle.std.specs.Prelude.{◌≡◌, ◌≤◌, ◌<◌, length, IfOk, IfSome, IsSome, All, Some, option_map};
+ghost use Rattle.rt_model.specs.Parts.{call_of, kind_of};
 ghost use Rattle.rt_model.specs.State.{fresh_thread};
-ghost use Rattle.rt_model.specs.NextEvent.{called_lock, is_held};
-ghost use Rattle.rt_model.specs.After.{thread_part_after, answered_with, phase_after, phase_behind, holds_after, with_hold};
-ghost use Rattle.rt_model.specs.Laws.{IsServed};
+ghost use Rattle.rt_model.specs.Stage.{IsServed};
+ghost use Rattle.rt_model.specs.Choice.{called_lock};
+ghost use Rattle.rt_model.specs.events.Own.{is_held};
+ghost use Rattle.rt_model.specs.steps.Task.{rest_of, sleep_of};
+ghost use Rattle.rt_model.specs.steps.Thread.{answered_with, holds_after, with_hold};
 ghost use Rattle.rt_model.specs.Run.{is_at_end};
 ghost use Rattle.rt_model.specs.Order.{in_walk};
-ghost use Rattle.rt_core.specs.Advance.{CanAdvance};
 
-use crate::filled::filled;
-use rt_base::{Call, Cpu, LockId, NoMemory, Path, Reply, TaskId};
-use rt_model::{Event, EventKind, Hold, Phase, Route};
+use rt_base::{Call, Cpu, Kind, LockId, NoMemory, Reply, TaskState};
+use rt_model::{Hold, Phase};
 use std::alloc::Global;
 use std::marker::Model;
 
@@ -20,9 +20,11 @@ const NOTHING: Hold = Hold {
     reads: 0,
 };
 
-/// A thread's private part: the calls that it makes, how far it has come, and what it holds.
+/// A thread's private part: what it knows of the script, which are the kinds of all locks and its own
+/// calls, how far it has come, and what it holds.
 #[derive(Drop)]
 pub struct Thread {
+    kinds: Vec<Kind>,
     calls: Vec<Call>,
     answered: u32,
     phase: Phase,
@@ -37,25 +39,31 @@ impl Model for Thread {
 
     ghost Value = { ThreadPart };
 
-    ghost view = { λ t. record { calls = t.calls.items; answered = t.answered; phase = t.phase; holds = t.holds.items; migration = t.migration; cpu = t.cpu } };
+    ghost view = { λ t. record { kinds = t.kinds.items; calls = t.calls.items; answered = t.answered; phase = t.phase; holds = t.holds.items; migration = t.migration; cpu = t.cpu } };
 
-    ghost use Rattle.std.specs.Prelude.{◌≤◌, length, All};
-    ghost use Rattle.rt_model.specs.Laws.{IsThread};
+    ghost use Rattle.std.specs.Prelude.{◌≤◌, length};
+    ghost use Rattle.rt_core.specs.Thread.{IsPrivate};
 
-    ghost invariant = { λ t. IsThread t.calls.items t.answered (length t.holds.items) };
+    ghost invariant = { λ t. IsPrivate t.kinds.items t.calls.items t.answered t.holds.items };
 }
 
 impl Thread {
-    /// A thread that has made none of its calls and holds nothing, of so many locks.
-    pub fn new(alloc: Global, calls: &[Call], cpu: Cpu, locks: u32) -> Result<Thread, NoMemory>
+    /// A thread that has made none of its calls and holds nothing, where the locks are of these kinds.
+    pub fn new(
+        alloc: Global,
+        kinds: &[Kind],
+        calls: &[Call],
+        cpu: Cpu,
+    ) -> Result<Thread, NoMemory>
         requires few { length calls.now ≤ 16384 }
-        requires served { All (IsServed locks) calls.now }
-        ensures { IfOk result (λ thread. thread ≡ fresh_thread locks calls.now cpu) }
+        requires few_locks { length kinds.now ≤ 256 }
+        requires served { All (IsServed (length kinds.now)) calls.now }
+        ensures { IfOk result (λ thread. thread ≡ fresh_thread kinds.now calls.now cpu) }
     {
-        let calls = Vec::from_slice(alloc, calls)?;
-        let holds = filled(alloc, NOTHING, locks)?;
+        let holds = vec![in alloc; NOTHING; kinds.len()]?;
         Ok(Thread {
-            calls,
+            kinds: Vec::from_slice(alloc, kinds)?,
+            calls: Vec::from_slice(alloc, calls)?,
             answered: 0,
             phase: Phase::Start,
             holds,
@@ -67,7 +75,7 @@ impl Thread {
     /// The call that the thread is at, and `None` at the end of its calls.
     pub fn call(&self) -> Option<Call>
         ensures call { result ≡ call_of self.now }
-        ensures served { IfSome result (IsServed (length self.now.holds)) }
+        ensures served { IfSome result (IsServed (length self.now.kinds)) }
     {
         self.calls.get(self.answered as usize).copied()
     }
@@ -114,6 +122,23 @@ impl Thread {
         self.migration
     }
 
+    /// The kinds of all locks, as it knows them.
+    pub fn kinds(&self) -> &[Kind]
+        ensures kinds { result.now ≡ self.now.kinds }
+        ensures few { length result.now ≤ 256 }
+        ensures holds { length self.now.holds ≡ length self.now.kinds }
+    {
+        self.kinds.as_slice()
+    }
+
+    /// The kind of a lock.
+    pub fn kind_of(&self, l: LockId) -> Kind
+        requires { l.0 < length self.now.kinds }
+        ensures { result ≡ kind_of self.now l }
+    {
+        self.kinds[l.0 as usize]
+    }
+
     /// What it holds of each lock.
     pub fn holds(&self) -> &[Hold]
         ensures { result.now ≡ self.now.holds }
@@ -123,9 +148,9 @@ impl Thread {
 
     /// The lock that a call is about.
     pub fn called_lock(&self, call: &Call) -> Option<LockId>
-        requires { IsServed (length self.now.holds) call.now }
-        ensures lock { result ≡ called_lock self.now call.now }
-        ensures within { IfSome result (λ l. l.0 < length self.now.holds) }
+        requires { IsServed (length self.now.kinds) call.now }
+        ensures lock { result ≡ called_lock self.now.cpu call.now }
+        ensures within { IfSome result (λ l. l.0 < length self.now.kinds) }
     {
         match call {
             Call::Lock(l) | Call::Unlock(l) => Some(*l),
@@ -133,9 +158,9 @@ impl Thread {
         }
     }
 
-    /// Whether the thread has the hold that a call is about.
+    /// Whether the thread has the hold that a call on this lock is about.
     pub fn is_held(&self, call: &Call, lock: Option<LockId>) -> bool
-        requires { IfSome lock (λ l. l.0 < length self.now.holds) }
+        requires { IfSome lock (λ l. l.0 < length self.now.kinds) }
         ensures { result ≡ is_held self.now call.now lock }
     {
         let Some(l) = lock else { return false };
@@ -145,20 +170,31 @@ impl Thread {
             _ => hold.owns,
         }
     }
+}
 
-    /// Takes note of an event of this thread. An answer moves it to the start of its next call.
-    pub fn advance(&mut self, e: &Event, owner_blocked: bool)
-        requires { CanAdvance e.now self.old }
-        ensures { self.new ≡ thread_part_after e.now owner_blocked self.old }
+// What an event asks of its thread, and what it does to it.
+impl Thread {
+    /// The state in which its call waits for a lock.
+    pub fn rest_for(&self, l: LockId) -> TaskState
+        requires { l.0 < length self.now.kinds }
+        ensures { result ≡ rest_of (kind_of self.now l) (call_of self.now) }
     {
-        self.phase = phase_after(e, owner_blocked, self.phase);
-        if let Some(reply) = e.reply {
-            self.answer(reply);
+        if self.kind_of(l).spins() {
+            TaskState::LockWait
+        } else {
+            sleep_of(self.call())
         }
     }
 
-    // The call that the thread is at has this answer.
-    fn answer(&mut self, reply: Reply)
+    /// Its call goes on in this phase.
+    pub fn go_to(&mut self, phase: Phase)
+        ensures { self.new ≡ record self.old { phase = phase } }
+    {
+        self.phase = phase;
+    }
+
+    /// The call that it is at has this answer, and it goes to the start of the next one.
+    pub fn answer(&mut self, reply: Reply)
         requires { IsSome (call_of self.old) }
         ensures { self.new ≡ answered_with self.old (Some reply) }
     {
@@ -170,7 +206,7 @@ impl Thread {
 
     // Holds what an acquire got, and no longer what a release gave back.
     fn note_answer(&mut self, call: Call, reply: Reply)
-        requires { IsServed (length self.old.holds) call }
+        requires { IsServed (length self.old.kinds) call }
         ensures { self.new ≡ record self.old { holds = holds_after self.old (Some call) reply } }
     {
         match (call, reply) {
@@ -182,50 +218,19 @@ impl Thread {
 
     // Owns a lock, or no longer does.
     fn set_owns(&mut self, l: LockId, owns: bool)
-        requires { l.0 < length self.old.holds }
+        requires { l.0 < length self.old.kinds }
         ensures { self.new ≡ record self.old { holds = with_hold self.old l owns } }
     {
         self.holds[l.0 as usize].owns = owns;
     }
 }
 
-// The phase of a call that isn't answered.
-fn phase_after(e: &Event, owner_blocked: bool, phase: Phase) -> Phase
-    requires task { e.now.task.0 < 64 }
-    requires lock { IfSome e.now.lock (λ l. l.0 < 256) }
-    ensures { result ≡ phase_after e.now.kind e.now owner_blocked phase }
+// The state in which a call sleeps in an ordinary way.
+fn sleep_of(call: Option<Call>) -> TaskState
+    ensures { result ≡ sleep_of call }
 {
-    match e.kind {
-        EventKind::Mark => Phase::Slow,
-        EventKind::Wait => phase_behind(e.task, e.lock, e.owner, owner_blocked),
-        _ => phase,
+    match call {
+        Some(Call::LockInt(_)) => TaskState::Interruptible,
+        _ => TaskState::Uninterruptible,
     }
-}
-
-// A task that has been queued waits, and where the lock's owner is itself blocked it walks from there.
-fn phase_behind(
-    t: TaskId,
-    lock: Option<LockId>,
-    owner: Option<TaskId>,
-    owner_blocked: bool,
-) -> Phase
-    requires task { t.0 < 64 }
-    requires lock { IfSome lock (λ l. l.0 < 256) }
-    ensures { result ≡ phase_behind t lock owner owner_blocked }
-{
-    match (lock, owner) {
-        (Some(l), Some(o)) if owner_blocked => Phase::Walk(o, Route::Full(first_link(t, l))),
-        _ => Phase::Wait,
-    }
-}
-
-// The path of one link.
-fn first_link(t: TaskId, l: LockId) -> Path
-    requires task { t.0 < 64 }
-    requires lock { l.0 < 256 }
-    ensures { result ≡ (t.0, l.0) ∷ [] }
-{
-    let mut path = Path::empty();
-    path.push(t, l);
-    path
 }

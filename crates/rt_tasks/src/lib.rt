@@ -2,6 +2,7 @@
 #![tactic(auto)]
 
 mod kept;
+mod sleep;
 mod task_cell;
 #[cfg(test)]
 mod task_cell_tests;

@@ -2,9 +2,10 @@ ghost use Rattle.std.specs.Prelude.{◌≡◌, ◌<◌, ◌||◌, length, option
 ghost use Rattle.rt_model.specs.Parts.{effective_of};
 ghost use Rattle.rt_model.specs.State.{fresh_task};
 ghost use Rattle.rt_model.specs.laws.KeptTops.{kept_of};
-ghost use Rattle.rt_model.specs.steps.Task.{with_top, blocked_on, restored, leave_queue, sleeps, woken_up, is_interruptible, signalled, lock_state_woken, lock_woken};
+ghost use Rattle.rt_model.specs.steps.Task.{with_top, blocked_on, restored, leave_queue, sleeps, woken_up, is_interruptible, signalled, lock_woken};
 
 use crate::kept::{least_of, least_with};
+use crate::sleep::{is_interruptible, lock_state_woken, sleeps};
 use crate::woken::Woken;
 use rt_base::{LockId, NoMemory, Prio, TaskState};
 use std::alloc::Global;
@@ -309,29 +310,5 @@ impl TaskCell {
         } else {
             let _ = self.wake();
         }
-    }
-}
-
-// Whether it is one of the two ordinary sleeps.
-fn sleeps(state: TaskState) -> bool
-    ensures { result ≡ sleeps state }
-{
-    matches!(state, TaskState::Interruptible | TaskState::Uninterruptible)
-}
-
-// Whether a signal ends this sleep.
-fn is_interruptible(state: TaskState) -> bool
-    ensures { result ≡ is_interruptible state }
-{
-    matches!(state, TaskState::Interruptible)
-}
-
-// The state after the wait for a spinning lock has ended.
-fn lock_state_woken(state: TaskState) -> TaskState
-    ensures { result ≡ lock_state_woken state }
-{
-    match state {
-        TaskState::LockWait => TaskState::Running,
-        _ => state,
     }
 }

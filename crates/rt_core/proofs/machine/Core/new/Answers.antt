@@ -1,28 +1,22 @@
-use Rattle.std.proofs.Common.{◌≡◌, ◌∙◌, ap, sym, subst, replicate, ℕ}
-use Rattle.rt_model.specs.State.{State, start, no_readers}
-use Rattle.rt_model.specs.Laws.{IsLawful, IsOf}
+use Rattle.std.proofs.Common.{◌≡◌, sym, subst}
+use Rattle.rt_model.specs.State.{State, start}
+use Rattle.rt_model.specs.laws.Shape.{IsOf}
+use Rattle.rt_model.specs.laws.Lawful.{IsLawful}
 use Rattle.rt_model.proofs.Starts.{IsLawful-start, IsOf-start}
-use Rattle.rt_core.specs.Machine.{state_of}
-use Rattle.rt_core.proofs.StartCells.{start-left, room-left}
+use Rattle.rt_core.specs.Core.{state_of}
 use Rattle.rt_core.proofs.machine.Core.new.Goals.{In_ok-threads}
 use Rattle.rt_core.proofs.machine.Core.new.Goals as goal
 
--- the lists make the script's start state
-begun : (c : In_ok-threads) → state_of c.in_ok-lock_cells.field-0.items c.in_ok-filled.field-0.items c.in_ok-task_cells.field-0.items c.in_ok-threads.field-0.items ≡ start c.args.script.now
-begun c =
-    start-left c.args.script.now _ _ _ _ c.in_ok-lock_cells.ensures (c.in_ok-filled.ensures ∙ ap (λ (n : ℕ). replicate n no_readers) c.locks.ensures.number)
-    c.in_ok-task_cells.ensures c.in_ok-threads.ensures
+-- the parts make the script's start state
+begun : (c : In_ok-threads) → state_of c.in_ok-new.field-0 c.in_ok-threads.field-0.items ≡ start c.args.script.now
+begun c = λ i. state_of (c.in_ok-new.ensures.start i) (c.in_ok-threads.ensures i)
 
 -- which is lawful
-lawful : (c : In_ok-threads) → IsLawful (state_of c.in_ok-lock_cells.field-0.items c.in_ok-filled.field-0.items c.in_ok-task_cells.field-0.items c.in_ok-threads.field-0.items) 0
-lawful c = subst (λ (s : State). IsLawful s 0) (sym (begun c)) (IsLawful-start c.args.script.now c.locks.ensures.valid c.requires)
+lawful : (c : In_ok-threads) → IsLawful (state_of c.in_ok-new.field-0 c.in_ok-threads.field-0.items) 0
+lawful c = subst (λ (s : State). IsLawful s 0) (sym (begun c)) (IsLawful-start c.args.script.now c.in_ok-new.ensures.valid c.requires)
 
 pub invariant_of-result : goal.invariant_of-result
-invariant_of-result c =
-    record {
-      lawful = lawful (goal.at.invariant_of-result c).In_ok-threads;
-      room = room-left c.args.script.now _ _ c.in_ok-lock_cells.ensures c.in_ok-threads.ensures;
-    }
+invariant_of-result c = lawful (goal.at.invariant_of-result c).In_ok-threads
 
 pub returns-clause-script : goal.returns-clause-script
 returns-clause-script c = subst (IsOf c.args.script.now) (sym (begun (goal.at.returns-clause-script c).In_ok-threads)) (IsOf-start c.args.script.now)

@@ -1,0 +1,113 @@
+-- What the steps of an event leave of the shared parts.
+use Rattle.std.proofs.Common.{◌≡◌, ◌≢◌, ◌∙◌, ℕ, zero, suc, ◌<◌, List, [], ◌∷◌, length, refl, sym, ap, subst, arith, Option, Some, None, IfSome}
+use Rattle.rt_base.specs.declared.id.LockId.{LockId}
+use Rattle.rt_base.specs.declared.id.TaskId.{TaskId}
+use Rattle.rt_model.specs.declared.event.Event.{Event}
+use Rattle.rt_model.specs.declared.event_kind.EventKind.{EventKind}
+use Rattle.rt_model.specs.declared.event_kind.EventKind.TheVariants as kinds
+use Rattle.rt_model.specs.declared.reader_cell.ReaderCell.{ReaderCell}
+use Rattle.rt_model.specs.Parts.{OwnerPart, TaskPart, ThreadPart}
+use Rattle.rt_model.specs.State.{Shared, free_lock, lock_in}
+use Rattle.rt_model.specs.steps.Task.{refreshed}
+use Rattle.rt_model.specs.Effect.{Touched}
+use Rattle.rt_model.specs.Rules.{touched}
+use Rattle.rt_model.specs.StateAfter.{update, at_lock, at_task, shared_after}
+use Rattle.rt_model.proofs.Lists.{length-update, at_lock-none, at_task-none}
+use Rattle.rt_model.proofs.PartsAfter.{read-update}
+use Rattle.rt_core.specs.Fits.{thread_moved}
+
+-- ---- one step after another
+
+-- as many locks and tasks are there as before
+pub record SameMany (sh left : Shared) : Type 0 where
+  pub locks : length left.locks ≡ length sh.locks
+  pub tasks : length left.tasks ≡ length sh.tasks
+
+pub lock-many : (sh left : Shared) (i : ℕ) (f : OwnerPart → OwnerPart) → left ≡ record sh { locks = update sh.locks i f } → SameMany sh left
+lock-many sh left i f is = subst (SameMany sh) (sym is) (record { locks = length-update sh.locks i f; tasks = refl })
+
+pub task-many : (sh left : Shared) (i : ℕ) (f : TaskPart → TaskPart) → left ≡ record sh { tasks = update sh.tasks i f } → SameMany sh left
+task-many sh left i f is = subst (SameMany sh) (sym is) (record { locks = refl; tasks = length-update sh.tasks i f })
+
+pub both-many : (sh mid left : Shared) → SameMany sh mid → SameMany mid left → SameMany sh left
+both-many sh mid left first then = record { locks = then.locks ∙ first.locks; tasks = then.tasks ∙ first.tasks }
+
+pub lock-stays : (sh left : Shared) (i : ℕ) → SameMany sh left → i < length sh.locks → i < length left.locks
+lock-stays sh left i same lt = subst (λ (n : ℕ). i < n) (sym same.locks) lt
+
+pub task-stays : (sh left : Shared) (i : ℕ) → SameMany sh left → i < length sh.tasks → i < length left.tasks
+task-stays sh left i same lt = subst (λ (n : ℕ). i < n) (sym same.tasks) lt
+
+pub named-stays : (sh left : Shared) (o : Option TaskId) → SameMany sh left → IfSome o (λ t. t.0 < length sh.tasks) → IfSome o (λ t. t.0 < length left.tasks)
+named-stays sh left o same lt = subst (λ (n : ℕ). IfSome o (λ t. t.0 < n)) (sym same.tasks) lt
+
+-- two updates of one element are one
+pub update-twice : {X : Type 0} (xs : List X) (i : ℕ) (f g : X → X) → update (update xs i f) i g ≡ update xs i (λ x. g (f x))
+update-twice [] i f g = refl
+update-twice (x ∷ xs) zero f g = refl
+update-twice (x ∷ xs) (suc i) f g = ap (λ ys. x ∷ ys) (update-twice xs i f g)
+
+-- a lock is changed, then a task, and then one that keeps the top of the lock as it is left
+abbrev pub refreshed_after : Shared → LockId → (OwnerPart → OwnerPart) → TaskId → (TaskPart → TaskPart) → Option TaskId → OwnerPart → Shared
+refreshed_after sh l f t g o lock = record sh { locks = update sh.locks l.0 f; tasks = at_task (update sh.tasks t.0 g) o (refreshed (Some l) lock.rows) }
+
+pub refresh-left : (sh a b left : Shared) (l : LockId) (f : OwnerPart → OwnerPart) (t : TaskId) (g : TaskPart → TaskPart) (o : Option TaskId) → l.0 < length sh.locks
+    → a ≡ record sh { locks = update sh.locks l.0 f } → b ≡ record a { tasks = update a.tasks t.0 g } → left ≡ record b { tasks = at_task b.tasks o (refreshed (Some l) (lock_in b l).rows) }
+    → left ≡ refreshed_after sh l f t g o (f (lock_in sh l))
+refresh-left sh a b left l f t g o lt is_a is_b is =
+    let first : Shared = record sh { locks = update sh.locks l.0 f } in
+    let then : b ≡ record first { tasks = update first.tasks t.0 g } = is_b ∙ ap (λ (x : Shared). record x { tasks = update x.tasks t.0 g }) is_a in
+    is ∙ (ap (λ (x : Shared). record x { tasks = at_task x.tasks o (refreshed (Some l) (lock_in x l).rows) }) then
+    ∙ ap (refreshed_after sh l f t g o) (read-update sh.locks l.0 f free_lock lt))
+
+-- ---- by the kind
+
+-- an event of this kind on this lock
+pub left-at : (sh : Shared) (thread : ThreadPart) (e : Event) (kind : EventKind) (l : LockId) → e.kind ≡ kind → e.lock ≡ Some l → shared_after sh thread (record e { kind = kind; lock = Some l }) ≡ shared_after sh thread e
+left-at sh thread e kind l is named = sym (λ i. shared_after sh thread (record e { kind = is i; lock = named i }))
+
+pub moved-at : (sh : Shared) (thread : ThreadPart) (e : Event) (kind : EventKind) (l : LockId) → e.kind ≡ kind → e.lock ≡ Some l → thread_moved sh thread (record e { kind = kind; lock = Some l }) ≡ thread_moved sh thread e
+moved-at sh thread e kind l is named = sym (λ i. thread_moved sh thread (record e { kind = is i; lock = named i }))
+
+-- parts that are touched and left as they were
+pub untouched : (sh : Shared) (named : Touched) → sh ≡ record {
+    locks = at_lock sh.locks named.lock (λ lock. lock);
+    readers = at_lock sh.readers named.readers (λ readers. readers);
+    tasks = at_task (at_task (at_task (at_task sh.tasks named.own (λ task. task)) named.owner (λ task. task)) named.other (λ task. task)) named.woken (λ task. task);
+  }
+untouched sh named =
+    let each : (xs : List TaskPart) (o : Option TaskId) → at_task xs o (λ task. task) ≡ xs = λ xs o. at_task-none xs o (λ task. task) (λ task. refl) in
+    let own = each sh.tasks named.own in
+    let owner = each (at_task sh.tasks named.own (λ task. task)) named.owner ∙ own in
+    let other = each (at_task (at_task sh.tasks named.own (λ task. task)) named.owner (λ task. task)) named.other ∙ owner in
+    let woken = each (at_task (at_task (at_task sh.tasks named.own (λ task. task)) named.owner (λ task. task)) named.other (λ task. task)) named.woken ∙ other in
+    let locks = at_lock-none sh.locks named.lock (λ lock. lock) (λ lock. refl) in
+    let readers = at_lock-none sh.readers named.readers (λ readers. readers) (λ readers. refl) in
+    sym (λ i. record { locks = locks i; readers = readers i; tasks = woken i })
+
+-- an event of another kind than the seven leaves all as it was
+pub record LeavesAll (sh : Shared) (own : ThreadPart) (e : Event) : Type 0 where
+  pub shared : sh ≡ shared_after sh own e
+  pub thread : own ≡ thread_moved sh own e
+
+pub record IsOther (kind : EventKind) : Type 0 where
+  pub fast : kind ≢ kinds.Fast
+  pub mark : kind ≢ kinds.Mark
+  pub take : kind ≢ kinds.Take
+  pub wait : kind ≢ kinds.Wait
+  pub again : kind ≢ kinds.Again
+  pub free : kind ≢ kinds.Free
+  pub give : kind ≢ kinds.Give
+
+others-leave : (sh : Shared) (thread : ThreadPart) (e : Event) (kind : EventKind) → IsOther kind → LeavesAll sh thread (record e { kind = kind })
+others-leave sh thread e kinds.Fast other = absurd (other.fast refl)
+others-leave sh thread e kinds.Mark other = absurd (other.mark refl)
+others-leave sh thread e kinds.Take other = absurd (other.take refl)
+others-leave sh thread e kinds.Wait other = absurd (other.wait refl)
+others-leave sh thread e kinds.Again other = absurd (other.again refl)
+others-leave sh thread e kinds.Free other = absurd (other.free refl)
+others-leave sh thread e kinds.Give other = absurd (other.give refl)
+others-leave sh thread e kind other = record { shared = untouched sh (touched kind (record e { kind = kind })); thread = refl }
+
+pub other-leaves : (sh : Shared) (thread : ThreadPart) (e : Event) → IsOther e.kind → LeavesAll sh thread e
+other-leaves sh thread e other = others-leave sh thread e e.kind other

@@ -1,7 +1,0 @@
-use Rattle.std.proofs.Common.{◌≡◌, ◌+◌, ◌≤◌, drop}
-use Rattle.rt_model.specs.NextEvent.{spinning_holds}
-use Rattle.rt_core.specs.Machine.{parts_of}
-use Rattle.rt_core.proofs.choice.spinning_holds.Given as goal
-
-abbrev pub invariant-loop-i : goal.invariant-loop-i
-invariant-loop-i l = (l.count + spinning_holds (parts_of (drop l.i l.locks)) (drop l.i l.holds) ≡ spinning_holds (parts_of l.locks) l.holds) × (l.count ≤ l.i)

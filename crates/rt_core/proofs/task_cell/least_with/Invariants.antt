@@ -1,7 +1,0 @@
-use Rattle.std.proofs.Common.{◌≡◌, drop}
-use Rattle.std.specs.Prelude.{slice_set}
-use Rattle.rt_model.specs.Parts.{least}
-use Rattle.rt_core.proofs.task_cell.least_with.Given as goal
-
-abbrev pub invariant-loop-i : goal.invariant-loop-i
-invariant-loop-i l = least l.fn.own (slice_set l.kept l.l.0 l.top) ≡ least l.best (drop l.i (slice_set l.kept l.l.0 l.top))

@@ -1,0 +1,12 @@
+-- The value of a core: a state of the machine, and how many events led to it.
+use Rattle.std.specs.Prelude.{ℕ, List}
+use Rattle.rt_model.specs.Parts.{ThreadPart}
+use Rattle.rt_model.specs.State.{State, Shared}
+
+pub record Made : Type 0 where
+  pub state : State
+  pub made : ℕ
+
+-- the state of these shared parts and threads
+abbrev pub state_of : Shared → List ThreadPart → State
+state_of sh threads = record { locks = sh.locks; readers = sh.readers; tasks = sh.tasks; threads = threads }

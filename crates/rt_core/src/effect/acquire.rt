@@ -1,0 +1,45 @@
+// Acquires: fast, mark, take.
+ghost use Rattle.std.specs.Prelude.{◌≡◌, ◌<◌, length, true, Some};
+ghost use Rattle.rt_model.specs.declared.phase.Phase.TheVariants.{Slow};
+ghost use Rattle.rt_model.specs.State.{lock_in};
+ghost use Rattle.rt_model.specs.StateAfter.{update};
+ghost use Rattle.rt_model.specs.steps.Lock.{taken_by};
+ghost use Rattle.rt_model.specs.events.Acquire.{taker};
+
+use crate::shared::Shared;
+use crate::thread::Thread;
+use rt_base::{Kind, LockId};
+use rt_model::{Event, Phase};
+
+/// The task is the owner.
+pub fn fast(shared: &mut Shared, e: &Event, l: LockId)
+    requires task { e.now.task.0 < length shared.old.tasks }
+    requires lock { l.0 < length shared.old.locks }
+    ensures { shared.new ≡ record shared.old { locks = update shared.old.locks l.0 (λ lock. record lock { owner = Some e.now.task }) } }
+{
+    shared.set_owner(l, e.task);
+}
+
+/// The waiters bit is set.
+pub fn mark(shared: &mut Shared, thread: &mut Thread, l: LockId)
+    requires { l.0 < length shared.old.locks }
+    ensures shared { shared.new ≡ record shared.old { locks = update shared.old.locks l.0 (λ lock. record lock { bit = true }) } }
+    ensures thread { thread.new ≡ record thread.old { phase = Slow } }
+{
+    shared.set_bit(l);
+    thread.go_to(Phase::Slow);
+}
+
+/// The lock is the task's, which isn't queued any more and keeps the key of the top waiter that is left.
+pub fn take(shared: &mut Shared, e: &Event, l: LockId, kind: Kind)
+    requires task { e.now.task.0 < length shared.old.tasks }
+    requires lock { l.0 < length shared.old.locks }
+    ensures { shared.new ≡ record shared.old {
+        locks = update shared.old.locks l.0 (taken_by e.now.task);
+        tasks = update shared.old.tasks e.now.task.0 (taker (Some l) kind (taken_by e.now.task (lock_in shared.old l)));
+    } }
+{
+    shared.take(l, e.task);
+    shared.leave_queue(e.task, kind.spins());
+    shared.refresh(Some(e.task), l);
+}

@@ -1,0 +1,85 @@
+// The one event that a task may make next, of the shared parts and its own thread alone.
+ghost use Rattle.std.specs.Prelude.{◌≡◌, ◌<◌, length, Some, IfSome};
+ghost use Rattle.rt_model.specs.Parts.{kind_of};
+ghost use Rattle.rt_model.specs.Choice.{called_lock};
+ghost use Rattle.rt_model.specs.Stage.{IsServed};
+ghost use Rattle.rt_model.specs.events.Own.{own_answer};
+ghost use Rattle.rt_model.specs.NextEvent.{first_event, answered_or, later_event, next_of};
+
+mod acquire;
+mod event;
+mod own;
+mod release;
+mod wait;
+
+use crate::next::acquire::acquire_event;
+use crate::next::own::{own_answer, own_event};
+use crate::next::release::release_event;
+use crate::next::wait::{queued_event, slow_event};
+use crate::shared::Shared;
+use crate::thread::Thread;
+use rt_base::{Call, LockId, TaskId};
+use rt_model::{Event, Phase};
+
+pub use crate::next::event::boost_within;
+
+/// The event of a task with this thread, where it has one.
+pub fn next_of(shared: &Shared, t: TaskId, thread: &Thread) -> Option<Event>
+    requires task { t.0 < length shared.now.tasks }
+    requires kinds { length thread.now.kinds ≡ length shared.now.locks }
+    ensures { result ≡ next_of shared.now t thread.now }
+{
+    let call = thread.call()?;
+    match thread.phase() {
+        Phase::Start => start_event(shared, t, thread, &call),
+        phase => later_event(phase, shared, t, thread, thread.called_lock(&call)),
+    }
+}
+
+// The event of a call in phase Start: the answer that its thread gives at once, or its first event.
+fn start_event(shared: &Shared, t: TaskId, thread: &Thread, call: &Call) -> Option<Event>
+    requires task { t.0 < length shared.now.tasks }
+    requires kinds { length thread.now.kinds ≡ length shared.now.locks }
+    requires served { IsServed (length thread.now.kinds) call.now }
+    ensures { result ≡ answered_or (first_event shared.now t call.now) t (called_lock thread.now.cpu call.now) (own_answer thread.now call.now) }
+{
+    match own_answer(thread, call) {
+        Some(answer) => Some(own_event(t, thread.called_lock(call), answer)),
+        None => first_event(shared, t, call),
+    }
+}
+
+// The first event of a call that isn't answered by its thread alone.
+fn first_event(shared: &Shared, t: TaskId, call: &Call) -> Option<Event>
+    requires task { t.0 < length shared.now.tasks }
+    requires served { IsServed (length shared.now.locks) call.now }
+    ensures { result ≡ first_event shared.now t call.now }
+{
+    match call {
+        Call::Lock(l) => Some(acquire_event(t, *l, shared.lock(*l))),
+        Call::Unlock(l) => Some(release_event(t, *l, shared.lock(*l), shared.task(t))),
+        _ => None,
+    }
+}
+
+// The event of a call on a lock that isn't in its first phase.
+fn later_event(
+    phase: Phase,
+    shared: &Shared,
+    t: TaskId,
+    thread: &Thread,
+    lock: Option<LockId>,
+) -> Option<Event>
+    requires task { t.0 < length shared.now.tasks }
+    requires kinds { length thread.now.kinds ≡ length shared.now.locks }
+    requires lock { IfSome lock (λ l. l.0 < length thread.now.kinds) }
+    ensures { result ≡ later_event phase shared.now t thread.now lock }
+{
+    let l = lock?;
+    let kind = thread.kind_of(l);
+    match phase {
+        Phase::Slow => Some(slow_event(shared, t, l, kind)),
+        Phase::Wait => queued_event(t, l, kind, shared.lock(l), shared.task(t)),
+        _ => None,
+    }
+}

@@ -1,0 +1,60 @@
+// Acquires: fast, mark, take.
+ghost use Rattle.std.specs.Prelude.{◌≡◌, Some};
+ghost use Rattle.rt_base.specs.declared.kind.Kind.{Kind};
+ghost use Rattle.rt_model.specs.Rows.{can_take};
+ghost use Rattle.rt_model.specs.events.Acquire.{fast_event, mark_event, acquire_event, take_event};
+
+use crate::next::event::{boost_of, on_lock};
+use rt_base::{Kind, LockId, Reply, TaskId};
+use rt_locks::LockCell;
+use rt_model::{Event, EventKind};
+use rt_tasks::TaskCell;
+
+/// The first event of a call that acquires and doesn't try: it gets a lock with no owner and its bit
+/// clear at once, and else sets the bit.
+pub fn acquire_event(t: TaskId, l: LockId, lock: &LockCell) -> Event
+    ensures { result ≡ acquire_event t l lock.now.part }
+{
+    if lock.owner().is_none() && !lock.bit() {
+        fast_event(t, l)
+    } else {
+        mark_event(t, l)
+    }
+}
+
+// The fast acquire, `rt_mutex_cmpxchg_acquire`.
+fn fast_event(t: TaskId, l: LockId) -> Event
+    ensures { result ≡ fast_event t l }
+{
+    Event {
+        reply: Some(Reply::Got),
+        ..on_lock(t, EventKind::Fast, l)
+    }
+}
+
+// Sets the waiters bit, `mark_rt_mutex_waiters`.
+fn mark_event(t: TaskId, l: LockId) -> Event
+    ensures { result ≡ mark_event t l }
+{
+    on_lock(t, EventKind::Mark, l)
+}
+
+/// Whether a task may take a lock of this kind.
+pub fn can_take(t: TaskId, kind: Kind, lock: &LockCell, task: &TaskCell) -> bool
+    ensures { result ≡ can_take t kind lock.now.part task.now }
+{
+    let key = lock.key_of(t).unwrap_or(task.effective());
+    lock.may_take(t, key, kind).is_some()
+}
+
+/// Takes a lock, `try_to_take_rt_mutex` with success. The event is the same for each kind of lock.
+pub fn take_event(t: TaskId, l: LockId, lock: &LockCell, task: &TaskCell) -> Event
+    ensures { (kind : Kind) → result ≡ take_event t l kind lock.now.part task.now }
+{
+    let after = task.effective_with(l, lock.top_key_without(t));
+    Event {
+        boost: boost_of(t, task.effective(), after),
+        reply: Some(Reply::Got),
+        ..on_lock(t, EventKind::Take, l)
+    }
+}

@@ -1,0 +1,56 @@
+// Words of which the choice of an event is made.
+ghost use Rattle.std.specs.Prelude.{◌≡◌, ◌≤◌, Some, IfSome};
+ghost use Rattle.rt_model.specs.Choice.{bare, boost_of};
+
+use rt_base::{LockId, Path, Prio, TaskId};
+use rt_model::{Event, EventKind};
+
+/// An event that names nothing but its task.
+pub fn bare(task: TaskId, kind: EventKind) -> Event
+    ensures { result ≡ bare task kind }
+{
+    Event {
+        task,
+        kind,
+        lock: None,
+        other: None,
+        owner: None,
+        woken: None,
+        value: 0,
+        path: Path::empty(),
+        boost: None,
+        reply: None,
+    }
+}
+
+/// An event on a lock that tells nothing else.
+pub fn on_lock(t: TaskId, kind: EventKind, l: LockId) -> Event
+    ensures { result ≡ record (bare t kind) { lock = Some l } }
+{
+    Event {
+        lock: Some(l),
+        ..bare(t, kind)
+    }
+}
+
+/// The change of a task's effective priority, where it changes.
+pub fn boost_of(t: TaskId, before: Prio, after: Prio) -> Option<(TaskId, Prio)>
+    ensures { result ≡ boost_of t before after }
+{
+    if before == after {
+        None
+    } else {
+        Some((t, after))
+    }
+}
+
+/// Changes nothing; its clause says that the new priority of an event's boost is one.
+pub fn boost_within(event: &Option<Event>)
+    ensures { IfSome event.now (λ e. IfSome e.boost (λ boost. boost.1 ≤ 139)) }
+{
+    if let Some(e) = event
+        && let Some((_, prio)) = e.boost
+    {
+        let _number = prio.get();
+    }
+}

@@ -1,0 +1,93 @@
+// Steps on one lock among the shared parts.
+ghost use Rattle.std.specs.Prelude.{◌≡◌, ◌<◌, ◌^◌, length, true, None, Some};
+ghost use Rattle.rt_model.specs.Parts.{effective_of};
+ghost use Rattle.rt_model.specs.Rows.{row_of};
+ghost use Rattle.rt_model.specs.State.{lock_in, task_in};
+ghost use Rattle.rt_model.specs.StateAfter.{update};
+ghost use Rattle.rt_model.specs.steps.Lock.{queued, taken_by, given_up};
+
+use crate::shared::Shared;
+use rt_base::{LockId, Prio, TaskId};
+use rt_locks::LockCell;
+use rt_waiters::Steps;
+use std::marker::Brand;
+use std::sync::ledger::{Blank, Ledger};
+
+impl Shared {
+    /// Makes a task the owner of a lock.
+    pub fn set_owner(&mut self, l: LockId, t: TaskId)
+        requires lock { l.0 < length self.old.locks }
+        requires task { t.0 < length self.old.tasks }
+        ensures { self.new ≡ record self.old { locks = update self.old.locks l.0 (λ lock. record lock { owner = Some t }) } }
+    {
+        self.locks[l.0 as usize].set_owner(t);
+    }
+
+    /// Leaves a lock without owner.
+    pub fn clear_owner(&mut self, l: LockId)
+        requires { l.0 < length self.old.locks }
+        ensures { self.new ≡ record self.old { locks = update self.old.locks l.0 (λ lock. record lock { owner = None }) } }
+    {
+        self.locks[l.0 as usize].clear_owner();
+    }
+
+    /// Sets the waiters bit of a lock.
+    pub fn set_bit(&mut self, l: LockId)
+        requires { l.0 < length self.old.locks }
+        ensures { self.new ≡ record self.old { locks = update self.old.locks l.0 (λ lock. record lock { bit = true }) } }
+    {
+        self.locks[l.0 as usize].set_bit();
+    }
+
+    /// Makes a task, queued or not, the owner of a lock that it takes.
+    pub fn take(&mut self, l: LockId, t: TaskId)
+        requires lock { l.0 < length self.old.locks }
+        requires task { t.0 < length self.old.tasks }
+        ensures { self.new ≡ record self.old { locks = update self.old.locks l.0 (taken_by t) } }
+    {
+        take::<Brand>(&mut self.locks[l.0 as usize], t, Blank::new(1));
+    }
+
+    /// Queues a task at a lock with its effective priority.
+    pub fn enqueue(&mut self, l: LockId, t: TaskId)
+        requires lock { l.0 < length self.old.locks }
+        requires task { t.0 < length self.old.tasks }
+        requires absent { row_of t (lock_in self.old l).rows ≡ None }
+        requires tickets { (lock_in self.old l).ticket < 2 ^ 63 }
+        ensures { self.new ≡ record self.old { locks = update self.old.locks l.0 (queued t (effective_of (task_in self.old t))) } }
+    {
+        let key = self.tasks[t.0 as usize].effective();
+        enqueue::<Brand>(&mut self.locks[l.0 as usize], t, key, Blank::new(1));
+    }
+
+    /// Gives a lock up.
+    pub fn give(&mut self, l: LockId)
+        requires { l.0 < length self.old.locks }
+        ensures { self.new ≡ record self.old { locks = update self.old.locks l.0 given_up } }
+    {
+        let _ = self.locks[l.0 as usize].give();
+    }
+}
+
+// Makes a task the owner of a lock that it takes. Nobody counts the comparisons.
+fn take<L: Ledger>(lock: &mut LockCell, t: TaskId, blank: Blank)
+    requires name { blank.name ≡ L.name }
+    requires parts { blank.parts ≡ L.parts }
+    requires some { 0 < L.parts }
+    ensures { lock.new ≡ record lock.old { part = taken_by t lock.old.part } }
+{
+    let _ = lock.take(t, &mut Steps::<L>::new(blank));
+}
+
+// Queues a task with this key. Nobody counts the comparisons.
+fn enqueue<L: Ledger>(lock: &mut LockCell, t: TaskId, key: Prio, blank: Blank)
+    requires name { blank.name ≡ L.name }
+    requires parts { blank.parts ≡ L.parts }
+    requires some { 0 < L.parts }
+    requires below { t.0 < lock.old.tasks }
+    requires absent { row_of t lock.old.part.rows ≡ None }
+    requires tickets { lock.old.part.ticket < 2 ^ 63 }
+    ensures { lock.new ≡ record lock.old { part = queued t key lock.old.part } }
+{
+    let _ = lock.enqueue(t, key, &mut Steps::<L>::new(blank));
+}

@@ -7,6 +7,7 @@ use Rattle.rt_base.specs.declared.id.LockId.{LockId}
 use Rattle.rt_base.specs.declared.id.Cpu.{Cpu}
 use Rattle.rt_base.specs.declared.kind.Kind.{Kind}
 use Rattle.rt_base.specs.declared.kind.Kind.TheVariants as kinds
+use Rattle.rt_base.specs.declared.limits.TheConstants.{MAX_CALLS, MAX_CPUS, MAX_LOCKS, MAX_PICKS, MAX_PRIO, MAX_TASKS}
 use Rattle.rt_base.specs.declared.state.TaskState.TheVariants.{LockWait}
 use Rattle.rt_base.specs.Name.{is_name}
 
@@ -140,7 +141,7 @@ IsCallOf script (State state) = state ≢ LockWait
 IsCallOf script Schedule = Unit {0}
 IsCallOf script (Wake t) = t.0 < length script.tasks
 IsCallOf script (Signal t) = t.0 < length script.tasks
-IsCallOf script (SetPrio t prio) = (t.0 < length script.tasks) × (prio ≤ 139)
+IsCallOf script (SetPrio t prio) = (t.0 < length script.tasks) × (prio ≤ MAX_PRIO)
 IsCallOf script (Move cpu) = cpu.0 < script.cpus
 
 -- ---- scripts
@@ -148,7 +149,7 @@ IsCallOf script (Move cpu) = cpu.0 < script.cpus
 -- a task's name has the shape of one, and its own priority, processor and calls are in range
 pub record IsTaskOf (script : Script) (task : TaskLine) : Type 0 where
   pub name : is_name task.name ≡ true
-  pub own : task.own ≤ 139
+  pub own : task.own ≤ MAX_PRIO
   pub cpu : task.cpu.0 < script.cpus
   pub calls : All (IsCallOf script) task.calls
 
@@ -168,11 +169,11 @@ pub record IsLockWithin (cpus : ℕ) (lock : LockLine) : Type 0 where
 
 -- the script keeps its limits, and names nothing that it doesn't have; its names differ, and its locks are whole
 pub record IsScript (script : Script) : Type 0 where
-  pub cpus : (1 ≤ script.cpus) × (script.cpus ≤ 8)
-  pub tasks : length script.tasks ≤ 64
-  pub locks : length script.locks ≤ 256
-  pub calls : all_calls script ≤ 16384
-  pub picks : length script.picks ≤ 65536
+  pub cpus : (1 ≤ script.cpus) × (script.cpus ≤ MAX_CPUS)
+  pub tasks : length script.tasks ≤ MAX_TASKS
+  pub locks : length script.locks ≤ MAX_LOCKS
+  pub calls : all_calls script ≤ MAX_CALLS
+  pub picks : length script.picks ≤ MAX_PICKS
   pub each_task : All (IsTaskOf script) script.tasks
   pub each_lock : All (IsLockWithin script.cpus) script.locks
   pub each_pick : All (λ (t : TaskId). t.0 < length script.tasks) script.picks

@@ -8,6 +8,7 @@ mod failing;
 mod fault;
 mod id;
 mod kind;
+mod limits;
 mod mem_sink;
 mod mem_source;
 #[cfg(test)]
@@ -20,6 +21,8 @@ mod sink;
 mod source;
 mod state;
 mod stdio;
+#[cfg(test)]
+mod stdio_tests;
 mod turnstile;
 mod writing;
 
@@ -28,6 +31,9 @@ pub use ended::Ended;
 pub use fault::{Failed, NoMemory};
 pub use id::{Cpu, LockId, TaskId};
 pub use kind::Kind;
+pub use limits::{
+    MAX_CALLS, MAX_CPUS, MAX_LINKS, MAX_LOCKS, MAX_NAME, MAX_PICKS, MAX_PRIO, MAX_TASKS,
+};
 pub use mem_sink::MemSink;
 pub use mem_source::MemSource;
 pub use path::Path;

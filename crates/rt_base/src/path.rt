@@ -3,7 +3,7 @@ ghost use Rattle.rt_base.specs.Path.{has_same_links};
 ghost use Rattle.rt_base.specs.PathLaws.{has_same_links-equiv};
 ghost use Rattle.std.specs.Cmp.{partial_equiv_from_equiv};
 
-use crate::{LockId, TaskId};
+use crate::{LockId, MAX_LINKS, MAX_LOCKS, MAX_TASKS, TaskId};
 use std::marker::Model;
 
 /// The links that a walk along a chain of locks has followed, in order: at most 64 pairs of a task
@@ -11,8 +11,8 @@ use std::marker::Model;
 #[derive(Clone, Copy, Debug)]
 pub struct Path {
     len: u8,
-    tasks: [u8; 64],
-    locks: [u8; 64],
+    tasks: [u8; MAX_LINKS],
+    locks: [u8; MAX_LINKS],
 }
 
 impl Model for Path {
@@ -48,15 +48,15 @@ impl Path {
     {
         Path {
             len: 0,
-            tasks: [0; 64],
-            locks: [0; 64],
+            tasks: [0; MAX_LINKS],
+            locks: [0; MAX_LINKS],
         }
     }
 
     /// How many links it has.
     pub fn len(&self) -> usize
         ensures links { result ≡ length self.now }
-        ensures within { result ≤ 64 }
+        ensures within { result ≤ MAX_LINKS }
     {
         self.len as usize
     }
@@ -73,9 +73,9 @@ impl Path {
 
     /// Puts a link after the others.
     pub fn push(&mut self, t: TaskId, l: LockId)
-        requires room { length self.old < 64 }
-        requires task { t.0 < 64 }
-        requires lock { l.0 < 256 }
+        requires room { length self.old < MAX_LINKS }
+        requires task { t.0 < MAX_TASKS }
+        requires lock { l.0 < MAX_LOCKS }
         ensures { self.new ≡ self.old ++ (t.0, l.0) ∷ [] }
     {
         let at = self.len as usize;
@@ -115,9 +115,9 @@ impl Eq for Path {
 }
 
 /// Zeroes the places from n on.
-fn clear_from(places: &mut [u8; 64], n: usize)
-    requires { n ≤ 64 }
-    ensures { places.new ≡ take n places.old ++ replicate (64 - n) 0 }
+fn clear_from(places: &mut [u8; MAX_LINKS], n: usize)
+    requires { n ≤ MAX_LINKS }
+    ensures { places.new ≡ take n places.old ++ replicate (MAX_LINKS - n) 0 }
 {
     places[n..].fill(0);
 }

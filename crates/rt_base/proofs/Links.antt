@@ -10,23 +10,24 @@ use Rattle.std.specs.Prelude.{◌==◌, ◌&&◌, nat_eq, map}
 use Rattle.std.specs.Cmp.Lexicographic.{pointwise}
 use Rattle.std.proofs.lemmas.Bool.Decides.{Decides-eqb, Decides-and, Decides-like}
 use Rattle.std.proofs.lemmas.Slice.Eq.{bytes_eq-Decides}
+use Rattle.rt_base.specs.declared.limits.TheConstants.{MAX_LINKS}
 use Rattle.rt_base.specs.Path.{padded, IsPadded}
 use Rattle.rt_base.specs.PathLaws.{padded-firsts, padded-seconds, length-take_padded, length-zip_padded}
 
-IsPadded-push_zeros : (n : ℕ) (xs : List ℕ) (x : ℕ) → IsPadded n xs → n < 64 → drop (n + 1) (set xs n x) ≡ replicate (64 - (n + 1)) 0
+IsPadded-push_zeros : (n : ℕ) (xs : List ℕ) (x : ℕ) → IsPadded n xs → n < MAX_LINKS → drop (n + 1) (set xs n x) ≡ replicate (MAX_LINKS - (n + 1)) 0
 IsPadded-push_zeros n xs x h room =
-    let one_less : 64 - n - 1 ≡ 64 - (n + 1) = omega arith in
-    drop-set-lt (n + 1) xs n x (omega arith) ∙ sym (drop-drop 1 n xs) ∙ ap (drop 1) h.zeros ∙ drop-replicate 1 (64 - n) 0 ∙ ap (λ m. replicate m 0) one_less
+    let one_less : MAX_LINKS - n - 1 ≡ MAX_LINKS - (n + 1) = omega arith in
+    drop-set-lt (n + 1) xs n x (omega arith) ∙ sym (drop-drop 1 n xs) ∙ ap (drop 1) h.zeros ∙ drop-replicate 1 (MAX_LINKS - n) 0 ∙ ap (λ m. replicate m 0) one_less
 
 pub length_from_view : (n : ℕ) (xs ys : List ℕ) {v : List (ℕ × ℕ)} → IsPadded n xs → IsPadded n ys → zip (take n xs) (take n ys) ≡ v → length v ≡ n
 length_from_view n xs ys h k e = ap length (sym e) ∙ length-zip_padded n xs ys h k
 
 -- one more place in use
-pub IsPadded-push : (n : ℕ) (xs : List ℕ) (x : ℕ) → IsPadded n xs → n < 64 → IsPadded (n + 1) (set xs n x)
+pub IsPadded-push : (n : ℕ) (xs : List ℕ) (x : ℕ) → IsPadded n xs → n < MAX_LINKS → IsPadded (n + 1) (set xs n x)
 IsPadded-push n xs x h room = record { within = omega arith; places = grind (arith, common_steps); zeros = IsPadded-push_zeros n xs x h room }
 
 -- fewer places in use
-pub IsPadded-cut : (k n : ℕ) (xs : List ℕ) → IsPadded n xs → k ≤ n → IsPadded k (take k xs ++ replicate (64 - k) 0)
+pub IsPadded-cut : (k n : ℕ) (xs : List ℕ) → IsPadded n xs → k ≤ n → IsPadded k (take k xs ++ replicate (MAX_LINKS - k) 0)
 IsPadded-cut k n xs h within = record { within = omega arith; places = grind (arith, common_steps); zeros = grind (arith, common_steps) }
 
 pub zip-push : {A B : Type 0} (xs : List A) (ys : List B) (x : A) (y : B) → length xs ≡ length ys → zip (xs ++ x ∷ []) (ys ++ y ∷ []) ≡ zip xs ys ++ (x, y) ∷ []
@@ -41,16 +42,16 @@ take-zip (suc n) [] ys = refl
 take-zip (suc n) (x ∷ xs) [] = refl
 take-zip (suc n) (x ∷ xs) (y ∷ ys) = ap (λ l. (x, y) ∷ l) (take-zip n xs ys)
 
-pub zip_padded-push : (n : ℕ) (xs ys : List ℕ) (x y : ℕ) → IsPadded n xs → IsPadded n ys → n < 64 → zip (take (n + 1) (set xs n x)) (take (n + 1) (set ys n y)) ≡ zip (take n xs) (take n ys) ++ (x, y) ∷ []
+pub zip_padded-push : (n : ℕ) (xs ys : List ℕ) (x y : ℕ) → IsPadded n xs → IsPadded n ys → n < MAX_LINKS → zip (take (n + 1) (set xs n x)) (take (n + 1) (set ys n y)) ≡ zip (take n xs) (take n ys) ++ (x, y) ∷ []
 zip_padded-push n xs ys x y h k room =
     let first : take (n + 1) (set xs n x) ≡ take n xs ++ x ∷ [] = take_more_set xs n x (omega arith) in
     let other : take (n + 1) (set ys n y) ≡ take n ys ++ y ∷ [] = take_more_set ys n y (omega arith) in
     rw (first, other) (zip-push (take n xs) (take n ys) x y (length-take_padded n xs h ∙ sym (length-take_padded n ys k)))
 
-pub zip_padded-cut : (k n : ℕ) (xs ys : List ℕ) → IsPadded n xs → IsPadded n ys → k ≤ n → zip (take k (take k xs ++ replicate (64 - k) 0)) (take k (take k ys ++ replicate (64 - k) 0)) ≡ take k (zip (take n xs) (take n ys))
+pub zip_padded-cut : (k n : ℕ) (xs ys : List ℕ) → IsPadded n xs → IsPadded n ys → k ≤ n → zip (take k (take k xs ++ replicate (MAX_LINKS - k) 0)) (take k (take k ys ++ replicate (MAX_LINKS - k) 0)) ≡ take k (zip (take n xs) (take n ys))
 zip_padded-cut k n xs ys hx hy within =
-    let first : take k (take k xs ++ replicate (64 - k) 0) ≡ take k xs = take_at (take k xs) (replicate (64 - k) 0) k (length-take-le k xs (omega arith)) in
-    let other : take k (take k ys ++ replicate (64 - k) 0) ≡ take k ys = take_at (take k ys) (replicate (64 - k) 0) k (length-take-le k ys (omega arith)) in
+    let first : take k (take k xs ++ replicate (MAX_LINKS - k) 0) ≡ take k xs = take_at (take k xs) (replicate (MAX_LINKS - k) 0) k (length-take-le k xs (omega arith)) in
+    let other : take k (take k ys ++ replicate (MAX_LINKS - k) 0) ≡ take k ys = take_at (take k ys) (replicate (MAX_LINKS - k) 0) k (length-take-le k ys (omega arith)) in
     rw (first, other, take-zip k (take n xs) (take n ys), take-take k n xs within, take-take k n ys within)
 
 pub slice_get-zip_padded : (n : ℕ) (xs ys : List ℕ) (i : ℕ) → IsPadded n xs → IsPadded n ys → i < n → slice_get (zip (take n xs) (take n ys)) i ≡ Some (get_or xs i 0, get_or ys i 0)

@@ -21,6 +21,8 @@ mod sink;
 mod source;
 mod state;
 mod stdio;
+#[cfg(test)]
+mod stdio_tests;
 mod turnstile;
 mod writing;
 

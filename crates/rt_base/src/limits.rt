@@ -12,6 +12,9 @@ pub const MAX_CALLS: u32 = 16384;
 /// The most picks.
 pub const MAX_PICKS: usize = 65536;
 
+/// The most links of a path: a walk along a chain of locks names each task once.
+pub const MAX_LINKS: usize = MAX_TASKS;
+
 /// The worst priority, nice 19: least is best.
 pub const MAX_PRIO: u8 = 139;
 

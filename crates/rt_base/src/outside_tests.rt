@@ -2,11 +2,9 @@ ghost use Rattle.std.specs.Prelude.{None};
 
 use crate::{
     AlwaysGo, Failed, Gate, MemSink, MemSource, NoMemory, PlainSink, PlainSource, Sink, Source,
-    StdinSource, StdoutSink, Taken, Turnstile, read_whole, write_whole,
+    Taken, Turnstile, read_whole, write_whole,
 };
 use std::alloc::Global;
-use std::io;
-use std::io::{Read, Write};
 use std::test::Fail;
 
 /// Gives its bytes one at a time, and fails at one of the reads.
@@ -62,26 +60,6 @@ impl Sink for Sips {
         }
         let _ = self.bytes.extend_from_slice(taken);
         Ok(taken.len())
-    }
-}
-
-/// A reader and writer of the system that is broken.
-#[derive(Drop)]
-struct Broken;
-
-impl Read for Broken {
-    fn read(&mut self, _buf: &mut [u8]) -> io::Result<usize> {
-        Err(io::ErrorKind::BrokenPipe.into())
-    }
-}
-
-impl Write for Broken {
-    fn write(&mut self, _buf: &[u8]) -> io::Result<usize> {
-        Err(io::ErrorKind::BrokenPipe.into())
-    }
-
-    fn flush(&mut self) -> io::Result<()> {
-        Ok(())
     }
 }
 
@@ -234,24 +212,6 @@ fn writes_whose_numbers_are_listed_fail(rt: HostRuntime) -> Result<(), Fail> {
         }
         assert_eq!(rt; sink.bytes(), wanted.as_bytes(), "at {room}");
     }
-    Ok(())
-}
-
-#[test]
-fn the_standard_streams_pass_on_bytes_and_errors(rt: HostRuntime) -> Result<(), Fail> {
-    let alloc = rt.alloc();
-    let mut buf = Vec::new(alloc);
-    let mut source = StdinSource::new(b"events".as_slice());
-    assert_eq!(rt; read_whole(alloc, &mut source, 9, &mut buf)?, Taken::Whole);
-    let mut sink = StdoutSink::new(&mut buf);
-    assert_eq!(rt; write_whole(&mut sink, b"!"), Ok(()));
-    assert_eq!(rt; buf.as_slice(), b"events!".as_slice());
-
-    let mut buf = Vec::new(alloc);
-    let mut source = StdinSource::new(Broken);
-    assert_eq!(rt; read_whole(alloc, &mut source, 9, &mut buf)?, Taken::Fault);
-    let mut sink = StdoutSink::new(Broken);
-    assert_eq!(rt; write_whole(&mut sink, b"!"), Err(Failed));
     Ok(())
 }
 

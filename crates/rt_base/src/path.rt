@@ -3,7 +3,7 @@ ghost use Rattle.rt_base.specs.Path.{has_same_links};
 ghost use Rattle.rt_base.specs.PathLaws.{has_same_links-equiv};
 ghost use Rattle.std.specs.Cmp.{partial_equiv_from_equiv};
 
-use crate::limits::{MAX_LOCKS, MAX_TASKS};
+use crate::limits::{MAX_LINKS, MAX_LOCKS, MAX_TASKS};
 use crate::{LockId, TaskId};
 use std::marker::Model;
 
@@ -12,8 +12,8 @@ use std::marker::Model;
 #[derive(Clone, Copy, Debug)]
 pub struct Path {
     len: u8,
-    tasks: [u8; MAX_TASKS],
-    locks: [u8; MAX_TASKS],
+    tasks: [u8; MAX_LINKS],
+    locks: [u8; MAX_LINKS],
 }
 
 impl Model for Path {
@@ -49,15 +49,15 @@ impl Path {
     {
         Path {
             len: 0,
-            tasks: [0; MAX_TASKS],
-            locks: [0; MAX_TASKS],
+            tasks: [0; MAX_LINKS],
+            locks: [0; MAX_LINKS],
         }
     }
 
     /// How many links it has.
     pub fn len(&self) -> usize
         ensures links { result ≡ length self.now }
-        ensures within { result ≤ MAX_TASKS }
+        ensures within { result ≤ MAX_LINKS }
     {
         self.len as usize
     }
@@ -74,7 +74,7 @@ impl Path {
 
     /// Puts a link after the others.
     pub fn push(&mut self, t: TaskId, l: LockId)
-        requires room { length self.old < MAX_TASKS }
+        requires room { length self.old < MAX_LINKS }
         requires task { t.0 < MAX_TASKS }
         requires lock { l.0 < MAX_LOCKS }
         ensures { self.new ≡ self.old ++ (t.0, l.0) ∷ [] }
@@ -116,9 +116,9 @@ impl Eq for Path {
 }
 
 /// Zeroes the places from n on.
-fn clear_from(places: &mut [u8; MAX_TASKS], n: usize)
-    requires { n ≤ MAX_TASKS }
-    ensures { places.new ≡ take n places.old ++ replicate (MAX_TASKS - n) 0 }
+fn clear_from(places: &mut [u8; MAX_LINKS], n: usize)
+    requires { n ≤ MAX_LINKS }
+    ensures { places.new ≡ take n places.old ++ replicate (MAX_LINKS - n) 0 }
 {
     places[n..].fill(0);
 }

@@ -14,7 +14,6 @@ use Rattle.rt_core.specs.Shared.{IsAmong, IsShared}
 abbrev free_cell : ℕ → OwnerCell
 free_cell tasks = record { part = free_lock; tasks = tasks }
 
-
 pub start-fits : (n : ℕ) (lines : List TaskLine) (cells : List OwnerCell) (readers : List ReaderCell) (tasks : List TaskPart) (r : ReaderCell) → n ≤ 256 → length lines ≤ 64
     → cells ≡ replicate n (free_cell (length lines)) → readers ≡ replicate n r → tasks ≡ map (λ (line : TaskLine). fresh_task n line.own) lines → IsShared cells readers tasks
 start-fits n lines cells readers tasks r few_locks few_tasks is_cells is_readers is_tasks =

@@ -1,6 +1,7 @@
 ghost use Rattle.std.specs.Prelude.{◌≡◌};
 ghost use Rattle.rt_model.specs.Rows.{reason_before, reason_among};
 
+use rt_base::limits::MAX_REALTIME;
 use rt_base::{Kind, Prio, TaskId};
 use rt_model::{Reason, Row};
 
@@ -22,7 +23,7 @@ fn reason_before(t: TaskId, key: u64, kind: Kind, top: &Row) -> Option<Reason>
         Some(Reason::Top)
     } else if key < top.key {
         Some(Reason::Better)
-    } else if key == top.key && 99 < key && kind.spins() {
+    } else if key == top.key && (MAX_REALTIME as u64) < key && kind.spins() {
         Some(Reason::Equal)
     } else {
         None

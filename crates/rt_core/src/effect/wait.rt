@@ -10,6 +10,7 @@ ghost use Rattle.rt_model.specs.events.Wait.{phase_after_wait};
 
 use crate::shared::Shared;
 use crate::thread::Thread;
+use rt_base::limits::{MAX_LOCKS, MAX_TASKS};
 use rt_base::{LockId, Path, TaskId, TaskState};
 use rt_model::{Event, Phase, Route};
 
@@ -24,8 +25,8 @@ pub fn wait(shared: &mut Shared, thread: &mut Thread, e: &Event, l: LockId)
     ensures shared { let key = effective_of (task_in shared.old e.now.task) in
         let rest = rest_of (kind_of thread.old l) (call_of thread.old) in
         shared.new ≡ record shared.old {
-            locks = update shared.old.locks l.0 (queued e.now.task key);
-            tasks = at_task (update shared.old.tasks e.now.task.0 (blocked_on (Some l) rest)) e.now.owner (refreshed (Some l) (queued e.now.task key (lock_in shared.old l)).rows);
+          locks = update shared.old.locks l.0 (queued e.now.task key);
+          tasks = at_task (update shared.old.tasks e.now.task.0 (blocked_on (Some l) rest)) e.now.owner (refreshed (Some l) (queued e.now.task key (lock_in shared.old l)).rows);
         } }
     ensures thread { thread.new ≡ record thread.old { phase = phase_after_wait e.now.task (Some l) e.now.owner (is_some (task_at shared.old e.now.owner).blocked) } }
 {
@@ -63,8 +64,8 @@ fn phase_after_wait(shared: &Shared, t: TaskId, l: LockId, owner: Option<TaskId>
 
 // The path of one link.
 fn first_link(t: TaskId, l: LockId) -> Path
-    requires task { t.0 < 64 }
-    requires lock { l.0 < 256 }
+    requires task { t.0 < MAX_TASKS }
+    requires lock { l.0 < MAX_LOCKS }
     ensures { result ≡ (t.0, l.0) ∷ [] }
 {
     let mut path = Path::empty();

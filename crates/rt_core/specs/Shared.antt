@@ -1,5 +1,6 @@
 -- What the cells of locks and tasks hold together.
 use Rattle.std.specs.Prelude.{◌≡◌, ℕ, ◌<◌, ◌≤◌, List, length, map, All, IfSome}
+use Rattle.rt_base.specs.declared.limits.TheConstants.{MAX_LOCKS, MAX_TASKS}
 use Rattle.rt_model.specs.declared.reader_cell.ReaderCell.{ReaderCell}
 use Rattle.rt_model.specs.Parts.{OwnerPart, TaskPart}
 use Rattle.rt_locks.specs.OwnerCell.{OwnerCell}
@@ -15,8 +16,8 @@ pub record IsAmong (tasks : ℕ) (cell : OwnerCell) : Type 0 where
 
 -- each lock is among these tasks and has a reader part, and each task keeps a top, or none, of each lock
 pub record IsShared (cells : List OwnerCell) (parts : List ReaderCell) (all : List TaskPart) : Type 0 where
-  pub few_locks : length cells ≤ 256
-  pub few_tasks : length all ≤ 64
+  pub few_locks : length cells ≤ MAX_LOCKS
+  pub few_tasks : length all ≤ MAX_TASKS
   pub locks : All (IsAmong (length all)) cells
   pub readers : length parts ≡ length cells
   pub kept : All (λ (task : TaskPart). length task.kept ≡ length cells) all

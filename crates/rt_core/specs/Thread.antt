@@ -1,5 +1,6 @@
 -- What holds of the private part of a thread.
 use Rattle.std.specs.Prelude.{◌≡◌, ℕ, ◌≤◌, List, length}
+use Rattle.rt_base.specs.declared.limits.TheConstants.{MAX_LOCKS}
 use Rattle.rt_base.specs.declared.call.Call.{Call}
 use Rattle.rt_base.specs.declared.kind.Kind.{Kind}
 use Rattle.rt_model.specs.declared.hold.Hold.{Hold}
@@ -8,5 +9,5 @@ use Rattle.rt_model.specs.laws.Shape.{IsThread}
 -- a thread knows a kind and a hold of each lock, and its calls are served
 pub record IsPrivate (kinds : List Kind) (calls : List Call) (answered : ℕ) (held : List Hold) : Type 0 where
   pub thread : IsThread calls answered (length kinds)
-  pub few : length kinds ≤ 256
+  pub few : length kinds ≤ MAX_LOCKS
   pub holds : length held ≡ length kinds

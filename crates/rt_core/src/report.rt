@@ -6,6 +6,7 @@ ghost use Rattle.rt_core.specs.Report.{bit_word, priority_words, progress_words,
 
 use crate::note::Note;
 use crate::thread::Thread;
+use rt_base::limits::{MAX_LINE, MAX_PRIO, MAX_TASKS};
 use rt_base::{Kind, LockId, TaskId};
 use rt_locks::LockCell;
 use rt_tasks::TaskCell;
@@ -16,7 +17,7 @@ use rt_events::{
 use rt_model::{ReaderCell, Row};
 use rt_script::Script;
 
-/// Writes a task's line of the report, of less than 4,096 bytes.
+/// Writes a task's line of the report, shorter than `MAX_LINE`.
 pub(crate) fn write_task_line(
     script: &Script,
     t: TaskId,
@@ -27,9 +28,9 @@ pub(crate) fn write_task_line(
 )
     requires task { t.0 < length script.now.tasks }
     requires note { IsNoteWithin (length script.now.tasks) (length script.now.locks) note }
-    requires room { vec_len out.old + 4096 ≤ vec_capacity out.old }
+    requires room { vec_len out.old + MAX_LINE ≤ vec_capacity out.old }
     ensures text { out.new.items ≡ out.old.items ++ task_line_of script.now t cell.now thread.now note }
-    ensures short { length (task_line_of script.now t cell.now thread.now note) < 4096 }
+    ensures short { length (task_line_of script.now t cell.now thread.now note) < MAX_LINE }
     ensures capacity { vec_capacity out.old ≤ vec_capacity out.new }
 {
     let named = t.0 < script.tasks();
@@ -46,8 +47,8 @@ fn push_priorities(script: &Script, t: TaskId, cell: &TaskCell, out: &mut Vec<u8
     requires task { t.0 < length script.now.tasks }
     requires room { vec_len out.old + 3 * WORD_ROOM ≤ vec_capacity out.old }
     ensures text { out.new.items ≡ out.old.items ++ spaced (priority_words script.now t cell.now) }
-    ensures own { cell.now.own ≤ 139 }
-    ensures effective { effective_of cell.now ≤ 139 }
+    ensures own { cell.now.own ≤ MAX_PRIO }
+    ensures effective { effective_of cell.now ≤ MAX_PRIO }
     ensures grows { vec_len out.new ≤ vec_len out.old + 3 * WORD_ROOM }
     ensures capacity { vec_capacity out.old ≤ vec_capacity out.new }
 {
@@ -77,7 +78,7 @@ fn push_note(script: &Script, note: Note, out: &mut Vec<u8>)
     requires note { IsNoteWithin (length script.now.tasks) (length script.now.locks) note }
     requires room { vec_len out.old + 3 * WORD_ROOM ≤ vec_capacity out.old }
     ensures text { out.new.items ≡ out.old.items ++ spaced (note_words script.now note) }
-    ensures key { note_key note ≤ 139 }
+    ensures key { note_key note ≤ MAX_PRIO }
     ensures grows { vec_len out.new ≤ vec_len out.old + 3 * WORD_ROOM }
     ensures capacity { vec_capacity out.old ≤ vec_capacity out.new }
 {
@@ -102,7 +103,7 @@ fn push_note(script: &Script, note: Note, out: &mut Vec<u8>)
     }
 }
 
-/// Writes a lock's line of the report, of less than 4,096 bytes.
+/// Writes a lock's line of the report, shorter than `MAX_LINE`.
 pub(crate) fn write_lock_line(
     script: &Script,
     l: LockId,
@@ -113,10 +114,10 @@ pub(crate) fn write_lock_line(
     requires lock { l.0 < length script.now.locks }
     requires owner { IfSome cell.now.part.owner (λ t. t.0 < length script.now.tasks) }
     requires rows { All (λ row. row.who < length script.now.tasks) cell.now.part.rows }
-    requires few { cell.now.tasks ≤ 64 }
-    requires room { vec_len out.old + 4096 ≤ vec_capacity out.old }
+    requires few { cell.now.tasks ≤ MAX_TASKS }
+    requires room { vec_len out.old + MAX_LINE ≤ vec_capacity out.old }
     ensures text { out.new.items ≡ out.old.items ++ lock_line_of script.now l cell.now.part readers }
-    ensures short { length (lock_line_of script.now l cell.now.part readers) < 4096 }
+    ensures short { length (lock_line_of script.now l cell.now.part readers) < MAX_LINE }
     ensures capacity { vec_capacity out.old ≤ vec_capacity out.new }
 {
     let named = l.0 < script.locks();
@@ -171,10 +172,10 @@ fn push_readers(kind: Kind, readers: ReaderCell, out: &mut Vec<u8>)
 // Appends the waiters in order, each with its key.
 fn push_rows(script: &Script, rows: &[Row], out: &mut Vec<u8>)
     requires rows { All (λ row. row.who < length script.now.tasks) rows.now }
-    requires few { length rows.now ≤ 64 }
-    requires room { vec_len out.old + 64 * WORD_ROOM ≤ vec_capacity out.old }
+    requires few { length rows.now ≤ MAX_TASKS }
+    requires room { vec_len out.old + MAX_TASKS * WORD_ROOM ≤ vec_capacity out.old }
     ensures text { out.new.items ≡ out.old.items ++ spaced (map (row_word script.now) rows.now) }
-    ensures grows { vec_len out.new ≤ vec_len out.old + 64 * WORD_ROOM }
+    ensures grows { vec_len out.new ≤ vec_len out.old + MAX_TASKS * WORD_ROOM }
     ensures capacity { vec_capacity out.old ≤ vec_capacity out.new }
 {
     for row in rows {

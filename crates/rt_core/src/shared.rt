@@ -7,6 +7,7 @@ mod locks;
 mod tasks;
 
 use crate::start::{lock_cells, task_cells};
+use rt_base::limits::{MAX_LOCKS, MAX_TASKS};
 use rt_base::{LockId, NoMemory, TaskId};
 use rt_locks::LockCell;
 use rt_model::ReaderCell;
@@ -62,7 +63,7 @@ impl Shared {
         ensures part { result.now.part ≡ lock_in self.now l }
         ensures room { result.now.tasks ≡ length self.now.tasks }
         ensures owner { IfSome result.now.part.owner (λ t. t.0 < length self.now.tasks) }
-        ensures few { length self.now.locks ≤ 256 }
+        ensures few { length self.now.locks ≤ MAX_LOCKS }
     {
         &self.locks[l.0 as usize]
     }
@@ -80,7 +81,7 @@ impl Shared {
         requires { t.0 < length self.now.tasks }
         ensures part { result.now ≡ task_in self.now t }
         ensures kept { length result.now.kept ≡ length self.now.locks }
-        ensures few { length self.now.tasks ≤ 64 }
+        ensures few { length self.now.tasks ≤ MAX_TASKS }
     {
         &self.tasks[t.0 as usize]
     }

@@ -9,6 +9,7 @@ ghost use Rattle.rt_model.specs.steps.Thread.{answered_with, holds_after, with_h
 ghost use Rattle.rt_model.specs.Run.{is_at_end};
 ghost use Rattle.rt_model.specs.Order.{in_walk};
 
+use rt_base::limits::{MAX_CALLS, MAX_LOCKS};
 use rt_base::{Call, Cpu, Kind, LockId, NoMemory, Reply, TaskState};
 use rt_model::{Hold, Phase};
 use std::alloc::Global;
@@ -55,8 +56,8 @@ impl Thread {
         calls: &[Call],
         cpu: Cpu,
     ) -> Result<Thread, NoMemory>
-        requires few { length calls.now ≤ 16384 }
-        requires few_locks { length kinds.now ≤ 256 }
+        requires few { length calls.now ≤ MAX_CALLS }
+        requires few_locks { length kinds.now ≤ MAX_LOCKS }
         requires served { All (IsServed (length kinds.now)) calls.now }
         ensures { IfOk result (λ thread. thread ≡ fresh_thread kinds.now calls.now cpu) }
     {
@@ -125,7 +126,7 @@ impl Thread {
     /// The kinds of all locks, as it knows them.
     pub fn kinds(&self) -> &[Kind]
         ensures kinds { result.now ≡ self.now.kinds }
-        ensures few { length result.now ≤ 256 }
+        ensures few { length result.now ≤ MAX_LOCKS }
         ensures holds { length self.now.holds ≡ length self.now.kinds }
     {
         self.kinds.as_slice()

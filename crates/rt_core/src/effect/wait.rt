@@ -10,6 +10,7 @@ ghost use Rattle.rt_model.specs.events.Wait.{phase_after_wait};
 
 use crate::shared::Shared;
 use crate::thread::Thread;
+use rt_base::limits::{MAX_LOCKS, MAX_TASKS};
 use rt_base::{LockId, Path, TaskId, TaskState};
 use rt_model::{Event, Phase, Route};
 
@@ -63,8 +64,8 @@ fn phase_after_wait(shared: &Shared, t: TaskId, l: LockId, owner: Option<TaskId>
 
 // The path of one link.
 fn first_link(t: TaskId, l: LockId) -> Path
-    requires task { t.0 < 64 }
-    requires lock { l.0 < 256 }
+    requires task { t.0 < MAX_TASKS }
+    requires lock { l.0 < MAX_LOCKS }
     ensures { result ≡ (t.0, l.0) ∷ [] }
 {
     let mut path = Path::empty();

@@ -2,6 +2,7 @@
 ghost use Rattle.std.specs.Prelude.{◌≡◌, ◌≤◌, Some, IfSome};
 ghost use Rattle.rt_model.specs.Choice.{bare, boost_of};
 
+use rt_base::limits::MAX_PRIO;
 use rt_base::{LockId, Path, Prio, TaskId};
 use rt_model::{Event, EventKind};
 
@@ -46,7 +47,7 @@ pub fn boost_of(t: TaskId, before: Prio, after: Prio) -> Option<(TaskId, Prio)>
 
 /// Changes nothing; its clause says that the new priority of an event's boost is one.
 pub fn boost_within(event: &Option<Event>)
-    ensures { IfSome event.now (λ e. IfSome e.boost (λ boost. boost.1 ≤ 139)) }
+    ensures { IfSome event.now (λ e. IfSome e.boost (λ boost. boost.1 ≤ MAX_PRIO)) }
 {
     if let Some(e) = event
         && let Some((_, prio)) = e.boost

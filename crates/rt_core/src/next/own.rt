@@ -6,6 +6,7 @@ ghost use Rattle.rt_model.specs.events.Own.{if_held, if_not_held, private_answer
 
 use crate::next::event::bare;
 use crate::thread::Thread;
+use rt_base::limits::MAX_LOCKS;
 use rt_base::{Call, Kind, LockId, Reply, TaskId};
 use rt_model::{Event, EventKind, Hold};
 
@@ -109,7 +110,7 @@ fn spinning_hold(kind: Kind, hold: &Hold) -> u32
 // How many locks of a spinning kind these holds are of.
 fn spinning_holds(kinds: &[Kind], holds: &[Hold]) -> u32
     requires same { length holds.now ≡ length kinds.now }
-    requires few { length kinds.now ≤ 256 }
+    requires few { length kinds.now ≤ MAX_LOCKS }
     ensures { result ≡ spinning_holds kinds.now holds.now }
 {
     let mut count = 0;

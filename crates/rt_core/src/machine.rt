@@ -239,7 +239,7 @@ impl Core {
 }
 
 impl Core {
-    /// Writes line i of the report, counted from 0, the tasks before the locks. It is shorter than 4,096 bytes.
+    /// Writes line i of the report, counted from 0, the tasks before the locks. It is shorter than `MAX_LINE`.
     pub fn report_line(&self, script: &Script, i: u32, out: &mut Vec<u8>)
         requires script { IsOf script.now self.now.state }
         requires line { i < length script.now.tasks + length script.now.locks }

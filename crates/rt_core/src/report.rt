@@ -17,7 +17,7 @@ use rt_model::{ReaderCell, Row};
 use rt_script::Script;
 use rt_tasks::TaskCell;
 
-/// Writes a task's line of the report, of less than 4,096 bytes.
+/// Writes a task's line of the report, shorter than `MAX_LINE`.
 pub(crate) fn write_task_line(
     script: &Script,
     t: TaskId,
@@ -103,7 +103,7 @@ fn push_note(script: &Script, note: Note, out: &mut Vec<u8>)
     }
 }
 
-/// Writes a lock's line of the report, of less than 4,096 bytes.
+/// Writes a lock's line of the report, shorter than `MAX_LINE`.
 pub(crate) fn write_lock_line(
     script: &Script,
     l: LockId,

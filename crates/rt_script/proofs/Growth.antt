@@ -12,7 +12,7 @@ use Rattle.rt_script.specs.Adding.{with_task, with_locks, with_call, with_pick}
 use Rattle.rt_base.specs.declared.limits.TheConstants.{MAX_CALLS, MAX_LOCKS, MAX_PICKS, MAX_TASKS}
 use Rattle.rt_script.specs.Names.{named, AreNewLocks}
 use Rattle.rt_script.proofs.Cells.{fit_of}
-use Rattle.rt_script.proofs.ScriptParts.{no_task, task_at, task_fits, IsLockOf-append}
+use Rattle.rt_script.proofs.ScriptParts.{no_task, task_line_at, task_fits, IsLockOf-append}
 use Rattle.rt_script.proofs.OwnNames.{HasOwnNames-with_task, HasOwnNames-with_locks, HasWholeLocks-with_locks, HasOwnNames-with_call}
 
 -- ---- what a call names is still there
@@ -114,7 +114,7 @@ IsScript-with_call s t call h in' room fits =
     let new : TaskLine = record line { calls = line.calls ++ call ∷ [] } in
     let n : Script = with_call s t call in
     let f : TaskLine → ℕ = λ t. length t.calls in
-    let is : line ≡ get_or s.tasks t.0 d = task_at s t in
+    let is : line ≡ get_or s.tasks t.0 d = task_line_at s t in
     let len : length (set s.tasks t.0 new) ≡ length s.tasks = length-set s.tasks t.0 new in
     let k : Keeps s n = record { cpus = refl; tasks = omega arith; locks = λ fits l h. h } in
     let stays : (x : TaskLine) → IsTaskOf s x → IsTaskOf n x = task_stays s n k in

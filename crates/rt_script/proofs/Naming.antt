@@ -22,7 +22,7 @@ use Rattle.rt_script.specs.declared.named.Named.TheVariants.{Task, Lock}
 use Rattle.rt_script.specs.Adding.{empty_script, with_cpus, with_task, with_locks, with_call, with_pick}
 use Rattle.rt_base.specs.Name.{is_name_byte, is_name}
 use Rattle.rt_script.proofs.Tests.{left, right}
-use Rattle.rt_script.proofs.ScriptParts.{no_task, no_lock, task_at}
+use Rattle.rt_script.proofs.ScriptParts.{no_task, no_lock, task_line_at}
 use Rattle.rt_script.specs.Names.{the_task, the_lock, named}
 
 -- ---- the index of a name
@@ -112,7 +112,7 @@ unfolding named
 named-with_call s t call name =
     let test : TaskLine → Bool = λ line. bytes_eq name line.name in
     let line : TaskLine = task_line s t in
-    let same : test line ≡ test (get_or s.tasks t.0 no_task) = ap test (task_at s t) in
+    let same : test line ≡ test (get_or s.tasks t.0 no_task) = ap test (task_line_at s t) in
     ap (λ (place : Option ℕ). either place (position (λ (l : LockLine). bytes_eq name l.name) s.locks)) (position-set test s.tasks t.0 (record line { calls = line.calls ++ call ∷ [] }) no_task same)
 
 pub named-with_pick : (s : Script) (t : TaskId) (name : List ℕ) → named (with_pick s t) name ≡ named s name
@@ -133,16 +133,16 @@ lock_is None (Some j) l e =
     ap (λ (u : LockId). Some u.0) same
 lock_is None None l e = absurd cc
 
-pub task_within : (s : Script) (name : List ℕ) (t : TaskId) → named s name ≡ Some (Task t) → t.0 < length s.tasks
+pub named_task_within : (s : Script) (name : List ℕ) (t : TaskId) → named s name ≡ Some (Task t) → t.0 < length s.tasks
 unfolding named
-task_within s name t e =
+named_task_within s name t e =
     let tasks : TaskLine → Bool = λ t. bytes_eq name t.name in
     let locks : LockLine → Bool = λ l. bytes_eq name l.name in
     (position-Some tasks s.tasks t.0 no_task (task_is (position tasks s.tasks) (position locks s.locks) t e)).0
 
-pub lock_within : (s : Script) (name : List ℕ) (l : LockId) → named s name ≡ Some (Lock l) → l.0 < length s.locks
+pub named_lock_within : (s : Script) (name : List ℕ) (l : LockId) → named s name ≡ Some (Lock l) → l.0 < length s.locks
 unfolding named
-lock_within s name l e =
+named_lock_within s name l e =
     let tasks : TaskLine → Bool = λ t. bytes_eq name t.name in
     let locks : LockLine → Bool = λ l. bytes_eq name l.name in
     (position-Some locks s.locks l.0 no_lock (lock_is (position tasks s.tasks) (position locks s.locks) l e)).0

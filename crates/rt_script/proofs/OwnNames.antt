@@ -25,15 +25,15 @@ use Rattle.rt_script.specs.Judging.{need}
 use Rattle.rt_script.specs.Adding.{with_task, with_locks, with_call}
 use Rattle.rt_script.specs.Names.{named, only_lock, lock_named, AreNewLocks}
 use Rattle.rt_script.proofs.Cells.{some_of, named_of, first_at_zero, in_lines}
-use Rattle.rt_script.proofs.ScriptParts.{no_task, no_lock, task_at, lock_at}
+use Rattle.rt_script.proofs.ScriptParts.{no_task, no_lock, task_line_at, lock_line_at}
 use Rattle.rt_script.proofs.Naming.{position_push, position-set, locks_found, same_test, no_index, lock_index_of, names-with_locks}
 
 -- the index of a name among tasks and among locks
-abbrev task_in : List TaskLine → List ℕ → Option ℕ
-task_in xs name = position (λ (t : TaskLine). bytes_eq name t.name) xs
+abbrev task_index_in : List TaskLine → List ℕ → Option ℕ
+task_index_in xs name = position (λ (t : TaskLine). bytes_eq name t.name) xs
 
-abbrev lock_in : List LockLine → List ℕ → Option ℕ
-lock_in xs name = position (λ (l : LockLine). bytes_eq name l.name) xs
+abbrev lock_index_in : List LockLine → List ℕ → Option ℕ
+lock_index_in xs name = position (λ (l : LockLine). bytes_eq name l.name) xs
 
 same_name : (a : List ℕ) → bytes_eq a a ≡ true
 same_name a = (bytes_eq-Decides a a).1 refl
@@ -42,7 +42,7 @@ past_end : (at len : ℕ) → cond (nat_lt at len) (Some at) None ≡ None → l
 past_end at len e = grind (arith, nat_tests)
 
 -- a name that no lock has
-other_name : (xs : List LockLine) (name : List ℕ) (i : ℕ) (d : LockLine) → lock_in xs name ≡ None → i < length xs → bytes_eq name (get_or xs i d).name ≡ false
+other_name : (xs : List LockLine) (name : List ℕ) (i : ℕ) (d : LockLine) → lock_index_in xs name ≡ None → i < length xs → bytes_eq name (get_or xs i d).name ≡ false
 other_name xs name i d none lt =
     let p : LockLine → Bool = λ l. bytes_eq name l.name in
     let end : length xs ≤ position_or_len p xs = past_end (position_or_len p xs) (length xs) none in
@@ -50,16 +50,16 @@ other_name xs name i d none lt =
 
 -- ---- a task more
 
-own_task : (xs : List TaskLine) (y d : TaskLine) (i : ℕ) → task_in xs y.name ≡ None → (i < length xs → task_in xs (get_or xs i d).name ≡ Some i) → i < length xs + 1 → task_in (xs ++ y ∷ []) (get_or (xs ++ y ∷ []) i d).name ≡ Some i
+own_task : (xs : List TaskLine) (y d : TaskLine) (i : ℕ) → task_index_in xs y.name ≡ None → (i < length xs → task_index_in xs (get_or xs i d).name ≡ Some i) → i < length xs + 1 → task_index_in (xs ++ y ∷ []) (get_or (xs ++ y ∷ []) i d).name ≡ Some i
 own_task xs y d i none old lt = elim (cases_lt i (length xs)) [
   | inl below ↦
       let n : List ℕ = (get_or xs i d).name in
       let is : get_or (xs ++ y ∷ []) i d ≡ get_or xs i d = get_or_append_left xs (y ∷ []) d i below in
-      ap (λ (l : TaskLine). task_in (xs ++ y ∷ []) l.name) is ∙ position_push (λ (t : TaskLine). bytes_eq n t.name) xs y ∙ ap (λ (o : Option ℕ). option_or o (cond (bytes_eq n y.name) (Some (length xs)) None)) (old below)
+      ap (λ (l : TaskLine). task_index_in (xs ++ y ∷ []) l.name) is ∙ position_push (λ (t : TaskLine). bytes_eq n t.name) xs y ∙ ap (λ (o : Option ℕ). option_or o (cond (bytes_eq n y.name) (Some (length xs)) None)) (old below)
   | inr above ↦
       let at : length xs ≡ i = omega arith in
       let is : get_or (xs ++ y ∷ []) i d ≡ y = get_or_push xs y d i at in
-      ap (λ (l : TaskLine). task_in (xs ++ y ∷ []) l.name) is ∙ position_push (λ (t : TaskLine). bytes_eq y.name t.name) xs y ∙ ap (λ (o : Option ℕ). option_or o (cond (bytes_eq y.name y.name) (Some (length xs)) None)) none
+      ap (λ (l : TaskLine). task_index_in (xs ++ y ∷ []) l.name) is ∙ position_push (λ (t : TaskLine). bytes_eq y.name t.name) xs y ∙ ap (λ (o : Option ℕ). option_or o (cond (bytes_eq y.name y.name) (Some (length xs)) None)) none
       ∙ ap (λ (b : Bool). cond b (Some (length xs)) None) (same_name y.name) ∙ ap (λ (n : ℕ). Some n) at
 ]
 
@@ -73,33 +73,33 @@ HasOwnNames-with_task s line h free =
     let more : length (s.tasks ++ line ∷ []) ≡ length s.tasks + 1 = omega (arith, length-append s.tasks (line ∷ [])) in
     record {
       task = λ t lt.
-          ap (λ (l : TaskLine). task_in n.tasks l.name) (task_at n t)
-          ∙ own_task s.tasks line no_task t.0 none.0 (λ below. subst (λ (l : TaskLine). task_in s.tasks l.name ≡ Some t.0) (task_at s t) (h.task t below)) (omega arith);
+          ap (λ (l : TaskLine). task_index_in n.tasks l.name) (task_line_at n t)
+          ∙ own_task s.tasks line no_task t.0 none.0 (λ below. subst (λ (l : TaskLine). task_index_in s.tasks l.name ≡ Some t.0) (task_line_at s t) (h.task t below)) (omega arith);
       lock = h.lock;
       apart = λ l lt.
           let name : List ℕ = (lock_line s l).name in
-          let other : bytes_eq line.name name ≡ false = rw (lock_at s l) (other_name s.locks line.name l.0 no_lock none.1 lt) in
+          let other : bytes_eq line.name name ≡ false = rw (lock_line_at s l) (other_name s.locks line.name l.0 no_lock none.1 lt) in
           position_push (λ (t : TaskLine). bytes_eq name t.name) s.tasks line ∙ still_none (task_place s name) (bytes_eq name line.name) (length s.tasks) (h.apart l lt) (same_test name line.name ∙ other);
     }
 
 -- ---- locks more
 
-own_lock : (xs ys : List LockLine) (key : List ℕ) (i : ℕ) (d : LockLine) → All (λ (y : LockLine). y.name ≡ key) ys → 1 ≤ length ys → lock_in xs key ≡ None → (i < length xs → lock_in xs (get_or xs i d).name ≡ Some i)
-    → (length xs ≤ i → i ≡ length xs) → i < length xs + length ys → lock_in (xs ++ ys) (get_or (xs ++ ys) i d).name ≡ Some i
+own_lock : (xs ys : List LockLine) (key : List ℕ) (i : ℕ) (d : LockLine) → All (λ (y : LockLine). y.name ≡ key) ys → 1 ≤ length ys → lock_index_in xs key ≡ None → (i < length xs → lock_index_in xs (get_or xs i d).name ≡ Some i)
+    → (length xs ≤ i → i ≡ length xs) → i < length xs + length ys → lock_index_in (xs ++ ys) (get_or (xs ++ ys) i d).name ≡ Some i
 own_lock xs ys key i d names some none old back lt = elim (cases_lt i (length xs)) [
   | inl below ↦
       let n : List ℕ = (get_or xs i d).name in
       let is : get_or (xs ++ ys) i d ≡ get_or xs i d = get_or_append_left xs ys d i below in
       let test : LockLine → Bool = λ l. bytes_eq n l.name in
       let all : All (λ (l : LockLine). test l ≡ bytes_eq n key) ys = λ k e in'. ap (bytes_eq n) (names k e in') in
-      ap (λ (l : LockLine). lock_in (xs ++ ys) l.name) is ∙ locks_found test (bytes_eq n key) xs ys all some ∙ ap (λ (o : Option ℕ). option_or o (cond (bytes_eq n key) (Some (length xs)) None)) (old below)
+      ap (λ (l : LockLine). lock_index_in (xs ++ ys) l.name) is ∙ locks_found test (bytes_eq n key) xs ys all some ∙ ap (λ (o : Option ℕ). option_or o (cond (bytes_eq n key) (Some (length xs)) None)) (old below)
   | inr above ↦
       let at : i ≡ length xs = back above in
       let is : get_or (xs ++ ys) i d ≡ get_or ys (i - length xs) d = get_or-append_right xs ys (length xs) i d refl above in
       let name : (get_or (xs ++ ys) i d).name ≡ key = ap (λ (l : LockLine). l.name) is ∙ names (i - length xs) d (omega arith) in
       let test : LockLine → Bool = λ l. bytes_eq key l.name in
       let all : All (λ (l : LockLine). test l ≡ true) ys = λ k e in'. ap (bytes_eq key) (names k e in') ∙ same_name key in
-      ap (λ (n : List ℕ). lock_in (xs ++ ys) n) name ∙ locks_found test true xs ys all some ∙ ap (λ (o : Option ℕ). option_or o (Some (length xs))) none ∙ ap (λ (n : ℕ). Some n) (sym at)
+      ap (λ (n : List ℕ). lock_index_in (xs ++ ys) n) name ∙ locks_found test true xs ys all some ∙ ap (λ (o : Option ℕ). option_or o (Some (length xs))) none ∙ ap (λ (n : ℕ). Some n) (sym at)
 ]
 
 -- what holds of the name of a lock, one of the old ones or of the new ones
@@ -121,21 +121,21 @@ HasOwnNames-with_locks s lines key h new =
       task = h.names.task;
       lock = λ l lt first.
           let i : ℕ = l.0 in
-          let at : is_first_cell (get_or (s.locks ++ lines) i no_lock).cell ≡ true = rw (← lock_at n l) first in
-          let old : i < length s.locks → lock_in s.locks (get_or s.locks i no_lock).name ≡ Some i = λ below.
+          let at : is_first_cell (get_or (s.locks ++ lines) i no_lock).cell ≡ true = rw (← lock_line_at n l) first in
+          let old : i < length s.locks → lock_index_in s.locks (get_or s.locks i no_lock).name ≡ Some i = λ below.
           let same : get_or (s.locks ++ lines) i no_lock ≡ get_or s.locks i no_lock = get_or_append_left s.locks lines no_lock i below in
-          let here : is_first_cell (lock_line s l).cell ≡ true = ap (λ (x : LockLine). is_first_cell x.cell) (lock_at s l ∙ sym same) ∙ at in
-          subst (λ (x : LockLine). lock_in s.locks x.name ≡ Some i) (lock_at s l) (h.names.lock l below here) in
+          let here : is_first_cell (lock_line s l).cell ≡ true = ap (λ (x : LockLine). is_first_cell x.cell) (lock_line_at s l ∙ sym same) ∙ at in
+          subst (λ (x : LockLine). lock_index_in s.locks x.name ≡ Some i) (lock_line_at s l) (h.names.lock l below here) in
           let back : length s.locks ≤ i → i ≡ length s.locks = λ above.
           let right : get_or (s.locks ++ lines) i no_lock ≡ get_or lines (i - length s.locks) no_lock = get_or-append_right s.locks lines (length s.locks) i no_lock refl above in
           let here : is_first_cell (get_or lines (i - length s.locks) no_lock).cell ≡ true = sym (ap (λ (x : LockLine). is_first_cell x.cell) right) ∙ at in
           let within : i - length s.locks < length lines = omega arith in
           let zero : i - length s.locks ≡ 0 = first_at_zero s.cpus key new.kind (i - length s.locks) no_lock (subst (λ (ls : List LockLine). i - length s.locks < length ls) new.made within) (subst (λ (ls : List LockLine). is_first_cell (get_or ls (i - length s.locks) no_lock).cell ≡ true) new.made here) in
           omega arith in
-          ap (λ (x : LockLine). lock_in n.locks x.name) (lock_at n l) ∙ own_lock s.locks lines key i no_lock names some none.1 old back (omega arith);
+          ap (λ (x : LockLine). lock_index_in n.locks x.name) (lock_line_at n l) ∙ own_lock s.locks lines key i no_lock names some none.1 old back (omega arith);
       apart = λ l lt.
-          subst (λ (x : LockLine). task_place s x.name ≡ None) (sym (lock_at n l))
-          (apart_of (λ name. task_place s name ≡ None) s.locks lines key l.0 no_lock names none.0 (λ below. subst (λ (x : LockLine). task_place s x.name ≡ None) (lock_at s l) (h.names.apart l below)) (omega arith));
+          subst (λ (x : LockLine). task_place s x.name ≡ None) (sym (lock_line_at n l))
+          (apart_of (λ name. task_place s name ≡ None) s.locks lines key l.0 no_lock names none.0 (λ below. subst (λ (x : LockLine). task_place s x.name ≡ None) (lock_line_at s l) (h.names.apart l below)) (omega arith));
     }
 
 pub HasWholeLocks-with_locks : (s : Script) (lines : List LockLine) (key : List ℕ) → HasWholeLocks s → AreNewLocks s key lines → HasWholeLocks (with_locks s lines)
@@ -158,13 +158,13 @@ HasOwnNames-with_call s t call h in' =
     let line : TaskLine = task_line s t in
     let new : TaskLine = record line { calls = line.calls ++ call ∷ [] } in
     let n : Script = with_call s t call in
-    let name : line.name ≡ (get_or s.tasks t.0 no_task).name = ap (λ (l : TaskLine). l.name) (task_at s t) in
+    let name : line.name ≡ (get_or s.tasks t.0 no_task).name = ap (λ (l : TaskLine). l.name) (task_line_at s t) in
     let place : (key : List ℕ) → task_place n key ≡ task_place s key = λ key. position-set (λ (l : TaskLine). bytes_eq key l.name) s.tasks t.0 new no_task (ap (bytes_eq key) name) in
     let len : length n.tasks ≡ length s.tasks = length-set s.tasks t.0 new in
     record {
       task = λ u lt.
           let is : (task_line n u).name ≡ (task_line s u).name =
-          ap (λ (l : TaskLine). l.name) (task_at n u) ∙ name_after s.tasks t.0 u.0 new no_task in' name ∙ sym (ap (λ (l : TaskLine). l.name) (task_at s u)) in
+          ap (λ (l : TaskLine). l.name) (task_line_at n u) ∙ name_after s.tasks t.0 u.0 new no_task in' name ∙ sym (ap (λ (l : TaskLine). l.name) (task_line_at s u)) in
           ap (task_place n) is ∙ place (task_line s u).name ∙ h.task u (omega arith);
       lock = h.lock;
       apart = λ l lt. place (lock_line s l).name ∙ h.apart l lt;
@@ -172,7 +172,7 @@ HasOwnNames-with_call s t call h in' =
 
 -- ---- what a name stands for is the first of its locks
 
-first_of_lines : (cpus : ℕ) (lines : List (List ℕ × Kind)) (name : List ℕ) (i : ℕ) (d : LockLine) → lock_in (locks_of_lines cpus lines) name ≡ Some i → is_first_cell (get_or (locks_of_lines cpus lines) i d).cell ≡ true
+first_of_lines : (cpus : ℕ) (lines : List (List ℕ × Kind)) (name : List ℕ) (i : ℕ) (d : LockLine) → lock_index_in (locks_of_lines cpus lines) name ≡ Some i → is_first_cell (get_or (locks_of_lines cpus lines) i d).cell ≡ true
 first_of_lines cpus lines name i d e =
     let xs : List LockLine = locks_of_lines cpus lines in
     let found = position-Some (λ (l : LockLine). bytes_eq name l.name) xs i d e in
@@ -186,9 +186,9 @@ first_of_lines cpus lines name i d e =
 
 pub first_named : (s : Script) (name : List ℕ) (l : LockId) → IsScript s → named s name ≡ Some (Lock l) → is_first_cell (lock_line s l).cell ≡ true
 first_named s name l h e =
-    let place : lock_in s.locks name ≡ Some l.0 = lock_index_of s name l e in
+    let place : lock_index_in s.locks name ≡ Some l.0 = lock_index_of s name l e in
     let whole = h.whole in
-    rw (lock_at s l, whole.1) (first_of_lines s.cpus whole.0 name l.0 no_lock (rw whole.1 at place))
+    rw (lock_line_at s l, whole.1) (first_of_lines s.cpus whole.0 name l.0 no_lock (rw whole.1 at place))
 
 named_lock : (o : Option Named) (l : LockId) → need Unknown (only_lock o) ≡ Ok l → o ≡ Some (Lock l)
 named_lock None l e = absurd cc

@@ -14,17 +14,17 @@ no_task = record { name = []; own = 0; cpu = record { 0 = 0 }; calls = [] }
 abbrev pub no_lock : LockLine
 no_lock = record { name = []; kind = kinds.Mutex; cell = None }
 
-pub task_at : (s : Script) (t : TaskId) → task_line s t ≡ get_or s.tasks t.0 no_task
-task_at s t = unwrap_or-slice_get s.tasks t.0 no_task
+pub task_line_at : (s : Script) (t : TaskId) → task_line s t ≡ get_or s.tasks t.0 no_task
+task_line_at s t = unwrap_or-slice_get s.tasks t.0 no_task
 
-pub lock_at : (s : Script) (l : LockId) → lock_line s l ≡ get_or s.locks l.0 no_lock
-lock_at s l = unwrap_or-slice_get s.locks l.0 no_lock
+pub lock_line_at : (s : Script) (l : LockId) → lock_line s l ≡ get_or s.locks l.0 no_lock
+lock_line_at s l = unwrap_or-slice_get s.locks l.0 no_lock
 
 pub task_fits : (s : Script) (t : TaskId) → IsScript s → t.0 < length s.tasks → IsTaskOf s (task_line s t)
-task_fits s t h within = rw (task_at s t) (h.each_task t.0 no_task within)
+task_fits s t h within = rw (task_line_at s t) (h.each_task t.0 no_task within)
 
 pub lock_fits : (s : Script) (l : LockId) → IsScript s → l.0 < length s.locks → IsLockWithin s.cpus (lock_line s l)
-lock_fits s l h within = rw (lock_at s l) (h.each_lock l.0 no_lock within)
+lock_fits s l h within = rw (lock_line_at s l) (h.each_lock l.0 no_lock within)
 
 -- ---- a lock of the script, whose line passes a test
 

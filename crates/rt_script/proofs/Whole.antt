@@ -5,7 +5,7 @@ use Rattle.std.proofs.lemmas.Grind.{flat_map-append}
 use Rattle.std.proofs.lemmas.List.{take_more, flat_map_more}
 use Rattle.std.proofs.lemmas.List.Folds.{flat_map-map}
 use Rattle.rt_base.specs.Script.{Script, TaskLine, LockLine, is_first_cell}
-use Rattle.rt_script.specs.Canonical.{cpus_text, task_text, lock_text, call_text, pick_text, lined_locks, calls_text, with_line_feed, canonical}
+use Rattle.rt_script.specs.Canonical.{cpus_line_text, task_line_text, lock_line_text, call_line_text, pick_line_text, lined_locks, call_line_texts, with_line_feed, canonical}
 
 if_kept : {X Y : Type 0} (b : Bool) (f : X → List Y) (x : X) (ys : List Y) (xs : List X) → ys ≡ flat_map f xs → cond b (f x) [] ++ ys ≡ flat_map f (cond b (x ∷ xs) xs)
 if_kept true f x ys xs e = ap (λ ys. f x ++ ys) e
@@ -18,55 +18,55 @@ flat_map-filter f p (x ∷ xs) = if_kept (p x) f x (flat_map (λ x. cond (p x) (
 -- ---- the parts of the text, each line with its line feed
 
 abbrev tasks_part : List TaskLine → List ℕ
-tasks_part tasks = flat_map (λ (task : TaskLine). with_line_feed (task_text task)) tasks
+tasks_part tasks = flat_map (λ (task : TaskLine). with_line_feed (task_line_text task)) tasks
 
 abbrev locks_part : List LockLine → List ℕ
-locks_part locks = flat_map (λ (lock : LockLine). cond (is_first_cell lock.cell) (with_line_feed (lock_text lock)) []) locks
+locks_part locks = flat_map (λ (lock : LockLine). cond (is_first_cell lock.cell) (with_line_feed (lock_line_text lock)) []) locks
 
 abbrev calls_part : Script → List ℕ
-calls_part s = flat_map (λ (task : TaskLine). flat_map (λ call. with_line_feed (call_text s task call)) task.calls) s.tasks
+calls_part s = flat_map (λ (task : TaskLine). flat_map (λ call. with_line_feed (call_line_text s task call)) task.calls) s.tasks
 
 abbrev picks_part : Script → List ℕ
-picks_part s = flat_map (λ t. with_line_feed (pick_text s t)) s.picks
+picks_part s = flat_map (λ t. with_line_feed (pick_line_text s t)) s.picks
 
-locks_are : (s : Script) → flat_map with_line_feed (map lock_text (lined_locks s)) ≡ locks_part s.locks
+locks_are : (s : Script) → flat_map with_line_feed (map lock_line_text (lined_locks s)) ≡ locks_part s.locks
 locks_are s =
-    flat_map-map with_line_feed lock_text (lined_locks s)
-    ∙ sym (flat_map-filter (λ (lock : LockLine). with_line_feed (lock_text lock)) (λ (lock : LockLine). is_first_cell lock.cell) s.locks)
+    flat_map-map with_line_feed lock_line_text (lined_locks s)
+    ∙ sym (flat_map-filter (λ (lock : LockLine). with_line_feed (lock_line_text lock)) (λ (lock : LockLine). is_first_cell lock.cell) s.locks)
 
-calls_of : (s : Script) (tasks : List TaskLine) → flat_map with_line_feed (flat_map (calls_text s) tasks) ≡ flat_map (λ (task : TaskLine). flat_map (λ call. with_line_feed (call_text s task call)) task.calls) tasks
+calls_of : (s : Script) (tasks : List TaskLine) → flat_map with_line_feed (flat_map (call_line_texts s) tasks) ≡ flat_map (λ (task : TaskLine). flat_map (λ call. with_line_feed (call_line_text s task call)) task.calls) tasks
 calls_of s [] = refl
 calls_of s (t ∷ ts) =
-    flat_map-append with_line_feed (calls_text s t) (flat_map (calls_text s) ts) ∙ (λ i. flat_map-map with_line_feed (call_text s t) t.calls i ++ calls_of s ts i)
+    flat_map-append with_line_feed (call_line_texts s t) (flat_map (call_line_texts s) ts) ∙ (λ i. flat_map-map with_line_feed (call_line_text s t) t.calls i ++ calls_of s ts i)
 
 in_order : (o h c t l k p g : List ℕ) → o ++ h ++ c ++ t ++ l ++ k ++ p ++ g ≡ o ++ (h ++ (c ++ (t ++ l ++ k ++ p ++ g)))
 in_order o h c t l k p g = simp append_assoc refl
 
 -- the parts one after another are the text
-canonical_is : (s : Script) (old : List ℕ) → old ++ codes "rtscript 1\n" ++ with_line_feed (cpus_text s.cpus) ++ tasks_part s.tasks ++ locks_part s.locks ++ calls_part s ++ picks_part s ++ codes "go\n" ≡ old ++ canonical s
+canonical_is : (s : Script) (old : List ℕ) → old ++ codes "rtscript 1\n" ++ with_line_feed (cpus_line_text s.cpus) ++ tasks_part s.tasks ++ locks_part s.locks ++ calls_part s ++ picks_part s ++ codes "go\n" ≡ old ++ canonical s
 canonical_is s old =
     let w : List ℕ → List ℕ = with_line_feed in
-    let tasks : List (List ℕ) = map task_text s.tasks in
-    let locks : List (List ℕ) = map lock_text (lined_locks s) in
-    let calls : List (List ℕ) = flat_map (calls_text s) s.tasks in
-    let picks : List (List ℕ) = map (pick_text s) s.picks in
-    let to_locks : flat_map w (tasks ++ locks) ≡ tasks_part s.tasks ++ locks_part s.locks = flat_map-append w tasks locks ∙ (λ i. flat_map-map w task_text s.tasks i ++ locks_are s i) in
+    let tasks : List (List ℕ) = map task_line_text s.tasks in
+    let locks : List (List ℕ) = map lock_line_text (lined_locks s) in
+    let calls : List (List ℕ) = flat_map (call_line_texts s) s.tasks in
+    let picks : List (List ℕ) = map (pick_line_text s) s.picks in
+    let to_locks : flat_map w (tasks ++ locks) ≡ tasks_part s.tasks ++ locks_part s.locks = flat_map-append w tasks locks ∙ (λ i. flat_map-map w task_line_text s.tasks i ++ locks_are s i) in
     let to_calls : flat_map w (tasks ++ locks ++ calls) ≡ tasks_part s.tasks ++ locks_part s.locks ++ calls_part s = flat_map-append w (tasks ++ locks) calls ∙ (λ i. to_locks i ++ calls_of s s.tasks i) in
     let to_picks : flat_map w (tasks ++ locks ++ calls ++ picks) ≡ tasks_part s.tasks ++ locks_part s.locks ++ calls_part s ++ picks_part s =
-    flat_map-append w (tasks ++ locks ++ calls) picks ∙ (λ i. to_calls i ++ flat_map-map w (pick_text s) s.picks i) in
+    flat_map-append w (tasks ++ locks ++ calls) picks ∙ (λ i. to_calls i ++ flat_map-map w (pick_line_text s) s.picks i) in
     let to_end : flat_map w (tasks ++ locks ++ calls ++ picks ++ codes "go" ∷ []) ≡ tasks_part s.tasks ++ locks_part s.locks ++ calls_part s ++ picks_part s ++ codes "go\n" =
     flat_map-append w (tasks ++ locks ++ calls ++ picks) (codes "go" ∷ []) ∙ ap (λ ys. ys ++ codes "go\n") to_picks in
-    in_order old (codes "rtscript 1\n") (with_line_feed (cpus_text s.cpus)) (tasks_part s.tasks) (locks_part s.locks) (calls_part s) (picks_part s) (codes "go\n")
-    ∙ sym (ap (λ (ys : List ℕ). old ++ (codes "rtscript 1\n" ++ (with_line_feed (cpus_text s.cpus) ++ ys))) to_end)
+    in_order old (codes "rtscript 1\n") (with_line_feed (cpus_line_text s.cpus)) (tasks_part s.tasks) (locks_part s.locks) (calls_part s) (picks_part s) (codes "go\n")
+    ∙ sym (ap (λ (ys : List ℕ). old ++ (codes "rtscript 1\n" ++ (with_line_feed (cpus_line_text s.cpus) ++ ys))) to_end)
 
 -- a text that is appended part by part
 pub whole_text : (s : Script) (cpus : ℕ) (tasks : List TaskLine) (locks : List LockLine) (old a b c d e f g : List ℕ) → cpus ≡ s.cpus → tasks ≡ s.tasks → locks ≡ s.locks → a ≡ old ++ codes "rtscript 1\n"
-    → b ≡ a ++ with_line_feed (cpus_text cpus) → c ≡ b ++ tasks_part tasks → d ≡ c ++ locks_part locks → e ≡ d ++ calls_part s → f ≡ e ++ picks_part s → g ≡ f ++ codes "go\n" → g ≡ old ++ canonical s
+    → b ≡ a ++ with_line_feed (cpus_line_text cpus) → c ≡ b ++ tasks_part tasks → d ≡ c ++ locks_part locks → e ≡ d ++ calls_part s → f ≡ e ++ picks_part s → g ≡ f ++ codes "go\n" → g ≡ old ++ canonical s
 whole_text s cpus tasks locks old a b c d e f g same-cpus same-tasks same-locks header from-cpus from-tasks from-locks from-calls from-picks go =
     let to-header : a ≡ old ++ codes "rtscript 1\n" = header in
-    let to-cpus : b ≡ old ++ codes "rtscript 1\n" ++ with_line_feed (cpus_text s.cpus) = from-cpus ∙ (λ i. to-header i ++ with_line_feed (cpus_text (same-cpus i))) in
-    let to-tasks : c ≡ old ++ codes "rtscript 1\n" ++ with_line_feed (cpus_text s.cpus) ++ tasks_part s.tasks = from-tasks ∙ (λ i. to-cpus i ++ tasks_part (same-tasks i)) in
-    let to-locks : d ≡ old ++ codes "rtscript 1\n" ++ with_line_feed (cpus_text s.cpus) ++ tasks_part s.tasks ++ locks_part s.locks = from-locks ∙ (λ i. to-tasks i ++ locks_part (same-locks i)) in
+    let to-cpus : b ≡ old ++ codes "rtscript 1\n" ++ with_line_feed (cpus_line_text s.cpus) = from-cpus ∙ (λ i. to-header i ++ with_line_feed (cpus_line_text (same-cpus i))) in
+    let to-tasks : c ≡ old ++ codes "rtscript 1\n" ++ with_line_feed (cpus_line_text s.cpus) ++ tasks_part s.tasks = from-tasks ∙ (λ i. to-cpus i ++ tasks_part (same-tasks i)) in
+    let to-locks : d ≡ old ++ codes "rtscript 1\n" ++ with_line_feed (cpus_line_text s.cpus) ++ tasks_part s.tasks ++ locks_part s.locks = from-locks ∙ (λ i. to-tasks i ++ locks_part (same-locks i)) in
     go ∙ ap (λ ys. ys ++ codes "go\n") (from-picks ∙ ap (λ ys. ys ++ picks_part s) (from-calls ∙ ap (λ ys. ys ++ calls_part s) to-locks)) ∙ canonical_is s old
 
 -- a loop over a list, whose text is so far that of the elements before

@@ -19,7 +19,7 @@ use Rattle.rt_script.specs.declared.call_form.CallForm.TheVariants as forms
 use Rattle.rt_script.specs.declared.verb.Verb.TheVariants as verbs
 use Rattle.rt_script.specs.declared.verb.LockVerb.{LockVerb}
 use Rattle.rt_script.specs.declared.verb.LockVerb.TheVariants as on
-use Rattle.rt_script.specs.Canonical.{on_lock, on_task, call_words}
+use Rattle.rt_script.specs.Canonical.{lock_call_words, task_call_words, call_words}
 use Rattle.rt_script.specs.Calls.{call_form, reading_call, call_on, call_in}
 use Rattle.rt_script.specs.Spelling.{cpu_spelled, verb_spelled}
 use Rattle.rt_base.specs.declared.limits.TheConstants.{MAX_CPU, MAX_CPUS, MAX_PRIO}
@@ -53,7 +53,7 @@ record IsVerb (word : List ℕ) (verb : LockVerb) : Type 0 where
   spelled : verb_spelled word ≡ Some (verbs.OnLock verb)
 
 lock_says : (p s : Script) → IsScript s → HasAll p s → (l : LockId) (word : List ℕ) (verb : LockVerb) (call : Call) → IsVerb word verb → l.0 < length s.locks → is_first_cell (lock_line s l).cell ≡ true
-    → call_on (lock_line s l).kind verb l ≡ Some call → Says p (on_lock s word l) call
+    → call_on (lock_line s l).kind verb l ≡ Some call → Says p (lock_call_words s word l) call
 lock_says p s h has l word verb call v within first fits =
     let known : lock_named p (lock_line s l).name ≡ Some l = lock_is_known p s h.names l within first has.names has.locks in
     let same : lock_line p l ≡ lock_line s l = rw has.locks refl in
@@ -76,17 +76,17 @@ not_local cpus kinds.Local cell h other = absurd (other refl)
 
 -- a call on a lock of one kind that has no cells
 kind_says : (p s : Script) → IsScript s → HasAll p s → (l : LockId) (word : List ℕ) (verb : LockVerb) (call : Call) (kind : Kind) → kind ≢ kinds.Local → IsVerb word verb → call_on kind verb l ≡ Some call
-    → IsLockOf s (λ line. line.kind ≡ kind) l → Says p (on_lock s word l) call
+    → IsLockOf s (λ line. line.kind ≡ kind) l → Says p (lock_call_words s word l) call
 kind_says p s h has l word verb call kind other v fits there =
     let at = IsLockOf-to s.locks l.0 (λ line. line.kind ≡ kind) there in
     let is : (lock_line s l).kind ≡ kind = at.1 in
     let first : is_first_cell (lock_line s l).cell ≡ true = not_local s.cpus (lock_line s l).kind (lock_line s l).cell (lock_fits s l h at.0).cell (λ e. other (sym is ∙ e)) in
     lock_says p s h has l word verb call v at.0 first (rw is fits)
 
-mutex_says : (p s : Script) → IsScript s → HasAll p s → (l : LockId) (word : List ℕ) (verb : LockVerb) (call : Call) → IsVerb word verb → call_on kinds.Mutex verb l ≡ Some call → IsLockOf s IsMutex l → Says p (on_lock s word l) call
+mutex_says : (p s : Script) → IsScript s → HasAll p s → (l : LockId) (word : List ℕ) (verb : LockVerb) (call : Call) → IsVerb word verb → call_on kinds.Mutex verb l ≡ Some call → IsLockOf s IsMutex l → Says p (lock_call_words s word l) call
 mutex_says p s h has l word verb call v fits there = kind_says p s h has l word verb call kinds.Mutex (λ e. absurd cc) v fits there
 
-spin_says : (p s : Script) → IsScript s → HasAll p s → (l : LockId) (word : List ℕ) (verb : LockVerb) (call : Call) → IsVerb word verb → call_on kinds.Spin verb l ≡ Some call → IsLockOf s IsSpin l → Says p (on_lock s word l) call
+spin_says : (p s : Script) → IsScript s → HasAll p s → (l : LockId) (word : List ℕ) (verb : LockVerb) (call : Call) → IsVerb word verb → call_on kinds.Spin verb l ≡ Some call → IsLockOf s IsSpin l → Says p (lock_call_words s word l) call
 spin_says p s h has l word verb call v fits there = kind_says p s h has l word verb call kinds.Spin (λ e. absurd cc) v fits there
 
 with_readers : (kind : Kind) (verb : LockVerb) (l : LockId) (call : Call) → HasReaders kind → reading_call verb l ≡ Some call → (kind ≢ kinds.Local) × (call_on kind verb l ≡ Some call)
@@ -96,13 +96,13 @@ with_readers kinds.Mutex verb l call h e = absurd h
 with_readers kinds.Spin verb l call h e = absurd h
 with_readers kinds.Local verb l call h e = absurd h
 
-reader_says : (p s : Script) → IsScript s → HasAll p s → (l : LockId) (word : List ℕ) (verb : LockVerb) (call : Call) → IsVerb word verb → reading_call verb l ≡ Some call → IsLockOf s IsReaderLock l → Says p (on_lock s word l) call
+reader_says : (p s : Script) → IsScript s → HasAll p s → (l : LockId) (word : List ℕ) (verb : LockVerb) (call : Call) → IsVerb word verb → reading_call verb l ≡ Some call → IsLockOf s IsReaderLock l → Says p (lock_call_words s word l) call
 reader_says p s h has l word verb call v fits there =
     let at = IsLockOf-to s.locks l.0 IsReaderLock there in
     let kind = with_readers (lock_line s l).kind verb l call at.1 fits in
     lock_says p s h has l word verb call v at.0 (not_local s.cpus (lock_line s l).kind (lock_line s l).cell (lock_fits s l h at.0).cell kind.0) kind.1
 
-local_says : (p s : Script) → IsScript s → HasAll p s → (l : LockId) (word : List ℕ) (verb : LockVerb) (call : Call) → IsVerb word verb → call_on kinds.Local verb l ≡ Some call → IsLockOf s IsLocal l → Says p (on_lock s word l) call
+local_says : (p s : Script) → IsScript s → HasAll p s → (l : LockId) (word : List ℕ) (verb : LockVerb) (call : Call) → IsVerb word verb → call_on kinds.Local verb l ≡ Some call → IsLockOf s IsLocal l → Says p (lock_call_words s word l) call
 local_says p s h has l word verb call v fits there =
     let at = IsLockOf-to s.locks l.0 IsLocal there in
     lock_says p s h has l word verb call v at.0 (rw at.1.1 refl) (rw at.1.0 fits)
@@ -120,17 +120,17 @@ named_word s t h within = word_of_name (task_line s t).name (task_fits s t h wit
 
 -- a call that names a task alone
 task_says : (p s : Script) → IsScript s → HasAll p s → (t : TaskId) (word : List ℕ) (form : CallForm (List ℕ)) (call : Call) → is_word word ≡ true → t.0 < length s.tasks
-    → call_form (on_task s word t) ≡ Some form → (task_named p (task_line s t).name ≡ Some t → call_in p form ≡ Ok call) → Says p (on_task s word t) call
+    → call_form (task_call_words s word t) ≡ Some form → (task_named p (task_line s t).name ≡ Some t → call_in p form ≡ Ok call) → Says p (task_call_words s word t) call
 task_says p s h has t word form call plain within formed gives =
     record { plain = both _ _ plain (both _ _ (named_word s t h within) refl); few = refl; form = form; formed = formed; gives = gives (task_is_known p s h.names t within has.names) }
 
-wake_says : (p s : Script) → IsScript s → HasAll p s → (t : TaskId) → t.0 < length s.tasks → Says p (on_task s (codes "wake") t) (calls.Wake t)
+wake_says : (p s : Script) → IsScript s → HasAll p s → (t : TaskId) → t.0 < length s.tasks → Says p (task_call_words s (codes "wake") t) (calls.Wake t)
 wake_says p s h has t within = task_says p s h has t (codes "wake") (forms.Wake (task_line s t).name) (calls.Wake t) refl within refl (λ known. rw known refl)
 
-signal_says : (p s : Script) → IsScript s → HasAll p s → (t : TaskId) → t.0 < length s.tasks → Says p (on_task s (codes "signal") t) (calls.Signal t)
+signal_says : (p s : Script) → IsScript s → HasAll p s → (t : TaskId) → t.0 < length s.tasks → Says p (task_call_words s (codes "signal") t) (calls.Signal t)
 signal_says p s h has t within = task_says p s h has t (codes "signal") (forms.Signal (task_line s t).name) (calls.Signal t) refl within refl (λ known. rw known refl)
 
-prio_says : (p s : Script) → IsScript s → HasAll p s → (t : TaskId) (prio : ℕ) → t.0 < length s.tasks → prio ≤ MAX_PRIO → Says p (on_task s (codes "setprio") t ++ decimal prio ∷ []) (calls.SetPrio t prio)
+prio_says : (p s : Script) → IsScript s → HasAll p s → (t : TaskId) (prio : ℕ) → t.0 < length s.tasks → prio ≤ MAX_PRIO → Says p (task_call_words s (codes "setprio") t ++ decimal prio ∷ []) (calls.SetPrio t prio)
 prio_says p s h has t prio within small =
     let known : task_named p (task_line s t).name ≡ Some t = task_is_known p s h.names t within has.names in
     let number : number_upto MAX_PRIO (decimal prio) ≡ Some prio = number_read MAX_PRIO prio small (omega arith) in

@@ -8,7 +8,7 @@ use Rattle.rt_base.specs.declared.kind.Kind.{Kind}
 use Rattle.rt_base.specs.declared.kind.Kind.TheVariants as kinds
 use Rattle.rt_base.specs.Script.{LockLine, is_first_cell, cells_of, locks_of, locks_of_lines}
 use Rattle.rt_script.proofs.Cells.{cell_at, lone}
-use Rattle.rt_script.specs.Canonical.{lock_kind_word, lock_text}
+use Rattle.rt_script.specs.Canonical.{lock_kind_word, lock_line_text}
 
 -- the test for locks that have a line of their own
 abbrev pub has_line : LockLine → Bool
@@ -59,11 +59,11 @@ starts cpus name kinds.RwSem some = alone name kinds.RwSem
 abbrev pub line_text : List ℕ × Kind → List ℕ
 line_text line = codes "lock" ++ spaced (line.0 ∷ lock_kind_word line.1 ∷ [])
 
-pub written_locks : (cpus : ℕ) (lines : List (List ℕ × Kind)) → 1 ≤ cpus → map lock_text (filter has_line (locks_of_lines cpus lines)) ≡ flat_map (λ line. line_text line ∷ []) lines
+pub written_locks : (cpus : ℕ) (lines : List (List ℕ × Kind)) → 1 ≤ cpus → map lock_line_text (filter has_line (locks_of_lines cpus lines)) ≡ flat_map (λ line. line_text line ∷ []) lines
 written_locks cpus [] some = refl
 written_locks cpus (line ∷ lines) some =
     let s = starts cpus line.0 line.1 some in
     let here : filter has_line (locks_of_lines cpus (line ∷ lines)) ≡ filter has_line (locks_of cpus line.0 line.1) ++ filter has_line (locks_of_lines cpus lines) = filter-append has_line (locks_of cpus line.0 line.1) (locks_of_lines cpus lines) in
-    let text : lock_text s.first ≡ line_text line = rw (s.name_is, s.kind_is) refl in
-    ap (map lock_text) (here ∙ ap (λ (xs : List LockLine). xs ++ filter has_line (locks_of_lines cpus lines)) s.lined) ∙ ap (λ (t : List ℕ). t ∷ map lock_text (filter has_line (locks_of_lines cpus lines))) text
+    let text : lock_line_text s.first ≡ line_text line = rw (s.name_is, s.kind_is) refl in
+    ap (map lock_line_text) (here ∙ ap (λ (xs : List LockLine). xs ++ filter has_line (locks_of_lines cpus lines)) s.lined) ∙ ap (λ (t : List ℕ). t ∷ map lock_line_text (filter has_line (locks_of_lines cpus lines))) text
     ∙ ap (λ (ts : List (List ℕ)). line_text line ∷ ts) (written_locks cpus lines some)

@@ -14,7 +14,7 @@ use Rattle.rt_base.specs.declared.kind.Kind.{Kind}
 use Rattle.rt_base.specs.declared.kind.Kind.TheVariants as kinds
 use Rattle.rt_base.specs.Script.{Script, TaskLine, LockLine, task_line, all_calls, locks_of, locks_of_lines, IsScript, IsTaskOf, IsLockWithin, IsCallOf}
 use Rattle.rt_script.specs.Adding.{empty_script, with_task, with_locks, with_call, with_pick}
-use Rattle.rt_script.specs.Canonical.{lock_kind_word, call_words, cpus_text, task_text, call_text, pick_text, calls_text}
+use Rattle.rt_script.specs.Canonical.{lock_kind_word, call_words, cpus_line_text, task_line_text, call_line_text, pick_line_text, call_line_texts}
 use Rattle.rt_base.specs.declared.limits.TheConstants.{MAX_CALLS, MAX_CPUS, MAX_LOCKS, MAX_PICKS, MAX_PRIO, MAX_TASKS}
 use Rattle.rt_script.specs.Lines.{SoFar, after_cpus_line, after_task_line, after_lock_line, after_call_line, after_pick_line}
 use Rattle.rt_script.specs.Spelling.{cpu_spelled, kind_spelled}
@@ -23,7 +23,7 @@ use Rattle.rt_script.specs.Words.{number_upto}
 use Rattle.rt_script.proofs.ScriptParts.{task_fits, lock_fits}
 use Rattle.rt_script.proofs.WrittenWords.{number_read}
 use Rattle.rt_script.proofs.WrittenPlain.{cpus_plain, task_plain, lock_plain, call_plain, pick_plain}
-use Rattle.rt_script.proofs.WrittenLines.{Reads, reads_line, reads_each}
+use Rattle.rt_script.proofs.WrittenLines.{LeadTo, reads_line, reads_each}
 use Rattle.rt_script.proofs.WrittenNames.{name_of, uncalled, uncalled-names, length-middle, the_task_line, the_lock_line, task_is_new, lock_is_new, task_is_known}
 use Rattle.rt_script.proofs.WrittenCalls.{HasAll, Says, call_says, cpu_read}
 use Rattle.rt_script.proofs.WrittenLocks.{line_text, starts}
@@ -45,7 +45,7 @@ cpus_made cpus some few =
     let positive : ltb 0 cpus ≡ true = lt-ltb 0 cpus some in
     rw (number, positive) refl
 
-pub reads_cpus : (s : Script) → IsScript s → Reads (record { script = empty_script; begun = false }) (cpus_text s.cpus ∷ []) (begun (empty s.cpus))
+pub reads_cpus : (s : Script) → IsScript s → LeadTo (record { script = empty_script; begun = false }) (cpus_line_text s.cpus ∷ []) (begun (empty s.cpus))
 reads_cpus s h = reads_line (record { script = empty_script; begun = false }) (empty s.cpus) (codes "cpus") (decimal s.cpus ∷ [])
     (record { plain = cpus_plain s.cpus h.cpus.1; kept = refl; not_go = refl; not_end = λ rest. refl })
     (cpus_made s.cpus h.cpus.0 h.cpus.1)
@@ -70,7 +70,7 @@ middle_task s h front x back e =
     let within : length front < length s.tasks = rw e (length-middle front x back) in
     subst (IsTaskOf s) (the_task_line s front x back e) (task_fits s (record { 0 = length front }) h within)
 
-reads_task : (s : Script) → IsScript s → (front : List TaskLine) (x : TaskLine) (back : List TaskLine) → s.tasks ≡ front ++ x ∷ back → Reads (begun (of_tasks s front)) (task_text x ∷ []) (begun (of_tasks s (front ++ x ∷ [])))
+reads_task : (s : Script) → IsScript s → (front : List TaskLine) (x : TaskLine) (back : List TaskLine) → s.tasks ≡ front ++ x ∷ back → LeadTo (begun (of_tasks s front)) (task_line_text x ∷ []) (begun (of_tasks s (front ++ x ∷ [])))
 reads_task s h front x back e =
     let p : Script = of_tasks s front in
     let fits : IsTaskOf s x = middle_task s h front x back e in
@@ -82,8 +82,8 @@ reads_task s h front x back e =
     (record { plain = task_plain s x fits h.cpus.1; kept = refl; not_go = refl; not_end = λ rest. refl })
     (made ∙ ap Ok next)
 
-pub reads_tasks : (s : Script) → IsScript s → Reads (begun (empty s.cpus)) (flat_map (λ x. task_text x ∷ []) s.tasks) (begun (of_tasks s s.tasks))
-reads_tasks s h = reads_each s.tasks (λ front back. begun (of_tasks s front)) (λ x. task_text x ∷ []) (reads_task s h)
+pub reads_tasks : (s : Script) → IsScript s → LeadTo (begun (empty s.cpus)) (flat_map (λ x. task_line_text x ∷ []) s.tasks) (begun (of_tasks s s.tasks))
+reads_tasks s h = reads_each s.tasks (λ front back. begun (of_tasks s front)) (λ x. task_line_text x ∷ []) (reads_task s h)
 
 -- ---- locks
 
@@ -129,7 +129,7 @@ next_lock s h lines front line back whole e =
     }
 
 reads_lock : (s : Script) → IsScript s → (lines : List (List ℕ × Kind)) → s.locks ≡ locks_of_lines s.cpus lines → (front : List (List ℕ × Kind)) (line : List ℕ × Kind) (back : List (List ℕ × Kind)) → lines ≡ front ++ line ∷ back
-    → Reads (begun (of_locks s front)) (line_text line ∷ []) (begun (of_locks s (front ++ line ∷ [])))
+    → LeadTo (begun (of_locks s front)) (line_text line ∷ []) (begun (of_locks s (front ++ line ∷ [])))
 reads_lock s h lines whole front line back e =
     let p : Script = of_locks s front in
     let next : NextLock s front line = next_lock s h lines front line back whole e in
@@ -141,7 +141,7 @@ reads_lock s h lines whole front line back e =
     (record { plain = lock_plain line.0 line.1 next.shape; kept = refl; not_go = refl; not_end = λ rest. refl })
     (made ∙ ap Ok same)
 
-pub reads_locks : (s : Script) → IsScript s → (lines : List (List ℕ × Kind)) → s.locks ≡ locks_of_lines s.cpus lines → Reads (begun (of_tasks s s.tasks)) (flat_map (λ line. line_text line ∷ []) lines) (begun (of_locks s lines))
+pub reads_locks : (s : Script) → IsScript s → (lines : List (List ℕ × Kind)) → s.locks ≡ locks_of_lines s.cpus lines → LeadTo (begun (of_tasks s s.tasks)) (flat_map (λ line. line_text line ∷ []) lines) (begun (of_locks s lines))
 reads_locks s h lines whole = reads_each lines (λ front back. begun (of_locks s front)) (λ line. line_text line ∷ []) (reads_lock s h lines whole)
 
 -- ---- calls
@@ -193,7 +193,7 @@ call_added s front x done back c =
     rw (is, set-append_seam front line (map uncalled back) (so_far x (done ++ c ∷ []))) refl
 
 reads_call : (s : Script) → IsScript s → (front : List TaskLine) (x : TaskLine) (back : List TaskLine) → s.tasks ≡ front ++ x ∷ back → (done : List Call) (c : Call) (rest : List Call) → x.calls ≡ done ++ c ∷ rest
-    → Reads (begun (of_calls s (amid front x done back))) (call_text s x c ∷ []) (begun (of_calls s (amid front x (done ++ c ∷ []) back)))
+    → LeadTo (begun (of_calls s (amid front x done back))) (call_line_text s x c ∷ []) (begun (of_calls s (amid front x (done ++ c ∷ []) back)))
 reads_call s h front x back e done c rest calls =
     let p : Script = of_calls s (amid front x done back) in
     let t : TaskId = record { 0 = length front } in
@@ -213,16 +213,16 @@ reads_call s h front x back e done c rest calls =
     middle P front x back all = subst P (get_or-append_seam front x back x) (all (length front) x (length-middle front x back))
 
 reads_task_calls : (s : Script) → IsScript s → (front : List TaskLine) (x : TaskLine) (back : List TaskLine) → s.tasks ≡ front ++ x ∷ back
-    → Reads (begun (of_calls s (front ++ map uncalled (x ∷ back)))) (calls_text s x) (begun (of_calls s ((front ++ x ∷ []) ++ map uncalled back)))
+    → LeadTo (begun (of_calls s (front ++ map uncalled (x ∷ back)))) (call_line_texts s x) (begun (of_calls s ((front ++ x ∷ []) ++ map uncalled back)))
 reads_task_calls s h front x back e =
-    let lines : flat_map (λ c. call_text s x c ∷ []) x.calls ≡ calls_text s x = flat_map_single (call_text s x) x.calls in
+    let lines : flat_map (λ c. call_line_text s x c ∷ []) x.calls ≡ call_line_texts s x = flat_map_single (call_line_text s x) x.calls in
     let done : amid front x x.calls back ≡ (front ++ x ∷ []) ++ map uncalled back = sym (append_assoc front (x ∷ []) (map uncalled back)) in
-    subst (λ (ts : List TaskLine). Reads (begun (of_calls s (amid front x [] back))) (calls_text s x) (begun (of_calls s ts))) done
-    (subst (λ (ls : List (List ℕ)). Reads (begun (of_calls s (amid front x [] back))) ls (begun (of_calls s (amid front x x.calls back)))) lines
-    (reads_each x.calls (λ done rest. begun (of_calls s (amid front x done back))) (λ c. call_text s x c ∷ []) (reads_call s h front x back e)))
+    subst (λ (ts : List TaskLine). LeadTo (begun (of_calls s (amid front x [] back))) (call_line_texts s x) (begun (of_calls s ts))) done
+    (subst (λ (ls : List (List ℕ)). LeadTo (begun (of_calls s (amid front x [] back))) ls (begun (of_calls s (amid front x x.calls back)))) lines
+    (reads_each x.calls (λ done rest. begun (of_calls s (amid front x done back))) (λ c. call_line_text s x c ∷ []) (reads_call s h front x back e)))
 
-pub reads_calls : (s : Script) → IsScript s → Reads (begun (of_calls s (map uncalled s.tasks))) (flat_map (calls_text s) s.tasks) (begun (of_calls s (s.tasks ++ [])))
-reads_calls s h = reads_each s.tasks (λ front back. begun (of_calls s (front ++ map uncalled back))) (calls_text s) (reads_task_calls s h)
+pub reads_calls : (s : Script) → IsScript s → LeadTo (begun (of_calls s (map uncalled s.tasks))) (flat_map (call_line_texts s) s.tasks) (begun (of_calls s (s.tasks ++ [])))
+reads_calls s h = reads_each s.tasks (λ front back. begun (of_calls s (front ++ map uncalled back))) (call_line_texts s) (reads_task_calls s h)
 
 -- ---- picks
 
@@ -236,7 +236,7 @@ pick_made p task t known room =
 abbrev pub of_picks : Script → List TaskId → Script
 of_picks s picks = record s { picks = picks }
 
-reads_pick : (s : Script) → IsScript s → (front : List TaskId) (t : TaskId) (back : List TaskId) → s.picks ≡ front ++ t ∷ back → Reads (begun (of_picks s front)) (pick_text s t ∷ []) (begun (of_picks s (front ++ t ∷ [])))
+reads_pick : (s : Script) → IsScript s → (front : List TaskId) (t : TaskId) (back : List TaskId) → s.picks ≡ front ++ t ∷ back → LeadTo (begun (of_picks s front)) (pick_line_text s t ∷ []) (begun (of_picks s (front ++ t ∷ [])))
 reads_pick s h front t back e =
     let p : Script = of_picks s front in
     let in' : t.0 < length s.tasks = subst (λ (u : TaskId). u.0 < length s.tasks) (get_or-append_seam front t back t) (subst (All (λ (u : TaskId). u.0 < length s.tasks)) e h.each_pick (length front) t (length-middle front t back)) in
@@ -246,5 +246,5 @@ reads_pick s h front t back e =
     (record { plain = pick_plain (task_line s t).name (task_fits s t h in').name; kept = refl; not_go = refl; not_end = λ rest. refl })
     (pick_made p (task_line s t).name t known room)
 
-pub reads_picks : (s : Script) → IsScript s → Reads (begun (of_picks s [])) (flat_map (λ t. pick_text s t ∷ []) s.picks) (begun (of_picks s s.picks))
-reads_picks s h = reads_each s.picks (λ front back. begun (of_picks s front)) (λ t. pick_text s t ∷ []) (reads_pick s h)
+pub reads_picks : (s : Script) → IsScript s → LeadTo (begun (of_picks s [])) (flat_map (λ t. pick_line_text s t ∷ []) s.picks) (begun (of_picks s s.picks))
+reads_picks s h = reads_each s.picks (λ front back. begun (of_picks s front)) (λ t. pick_line_text s t ∷ []) (reads_pick s h)

@@ -70,8 +70,8 @@ number_read most n le small =
 -- ---- lines of words
 
 -- a word, and others after spaces
-abbrev pub line_of : List ℕ → List (List ℕ) → List ℕ
-line_of first words = first ++ spaced words
+abbrev pub line_from : List ℕ → List (List ℕ) → List ℕ
+line_from first words = first ++ spaced words
 
 no_space : (b : ℕ) → is_word_byte b ≡ true → (b == 32) ≡ false
 no_space b e = grind (arith, nat_tests)
@@ -84,11 +84,11 @@ all_other p separator h (b ∷ bs) e = All-cons (λ c. (c == separator) ≡ fals
 spaceless : (word : List ℕ) → list_all is_word_byte word ≡ true → All (λ b. (b == 32) ≡ false) word
 spaceless word e = all_other is_word_byte 32 no_space word e
 
-pub words_of-line : (first : List ℕ) (words : List (List ℕ)) → list_all is_word (first ∷ words) ≡ true → words_of (line_of first words) ≡ first ∷ words
+pub words_of-line : (first : List ℕ) (words : List (List ℕ)) → list_all is_word (first ∷ words) ≡ true → words_of (line_from first words) ≡ first ∷ words
 words_of-line first [] e =
     rw (append-nil first) (slice_split_none (λ b. b == 32) first (spaceless first (word_bytes first (left _ _ e))))
 words_of-line first (w ∷ ws) e =
-    slice_split_at (λ b. b == 32) first 32 (line_of w ws) (spaceless first (word_bytes first (left _ _ e))) refl ∙ ap (λ rest. first ∷ rest) (words_of-line w ws (right _ _ e))
+    slice_split_at (λ b. b == 32) first 32 (line_from w ws) (spaceless first (word_bytes first (left _ _ e))) refl ∙ ap (λ rest. first ∷ rest) (words_of-line w ws (right _ _ e))
 
 printable_byte : (b : ℕ) → is_word_byte b ≡ true → is_printable b ≡ true
 printable_byte b e = grind (arith, nat_tests)
@@ -100,14 +100,14 @@ printable_spaced : (words : List (List ℕ)) → list_all is_word words ≡ true
 printable_spaced [] e = refl
 printable_spaced (w ∷ ws) e = list_all-append is_printable w (spaced ws) ∙ both _ _ (printable_word w (left _ _ e)) (printable_spaced ws (right _ _ e))
 
-pub printable_line : (first : List ℕ) (words : List (List ℕ)) → list_all is_word (first ∷ words) ≡ true → list_all is_printable (line_of first words) ≡ true
+pub printable_line : (first : List ℕ) (words : List (List ℕ)) → list_all is_word (first ∷ words) ≡ true → list_all is_printable (line_from first words) ≡ true
 printable_line first words e = list_all-append is_printable first (spaced words) ∙ both _ _ (printable_word first (left _ _ e)) (printable_spaced words (right _ _ e))
 
 length_spaced : (words : List (List ℕ)) → list_all is_word words ≡ true → length (spaced words) ≤ (MAX_NAME + 1) * length words
 length_spaced [] e = omega arith
 length_spaced (w ∷ ws) e = omega (arith, length-append w (spaced ws), leb-true (length w) MAX_NAME (word_short w (left _ _ e)), length_spaced ws (right _ _ e))
 
-pub length_line : (first : List ℕ) (words : List (List ℕ)) → list_all is_word (first ∷ words) ≡ true → length (line_of first words) ≤ MAX_NAME + (MAX_NAME + 1) * length words
+pub length_line : (first : List ℕ) (words : List (List ℕ)) → list_all is_word (first ∷ words) ≡ true → length (line_from first words) ≤ MAX_NAME + (MAX_NAME + 1) * length words
 length_line first words e = omega (arith, length-append first (spaced words), leb-true (length first) MAX_NAME (word_short first (left _ _ e)), length_spaced words (right _ _ e))
 
 -- no word of such a line is empty

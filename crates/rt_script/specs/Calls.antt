@@ -1,11 +1,10 @@
 -- The calls that call lines make: the form of a call, and what it makes in a script.
-use Rattle.std.specs.Prelude.{◌≢◌, ℕ, List, [], ◌∷◌, Option, Some, None, Ok, option_map, option_and_then}
+use Rattle.std.specs.Prelude.{ℕ, List, [], ◌∷◌, Option, Some, None, Ok, option_map, option_and_then}
 use Rattle.rt_base.specs.declared.call.Call.{Call}
 use Rattle.rt_base.specs.declared.call.Call.TheVariants as calls
 use Rattle.rt_base.specs.declared.id.LockId.{LockId}
 use Rattle.rt_base.specs.declared.kind.Kind.{Kind}
 use Rattle.rt_base.specs.declared.kind.Kind.TheVariants as kinds
-use Rattle.rt_base.specs.declared.state.TaskState.TheVariants.{LockWait}
 use Rattle.rt_base.specs.Script.{Script, lock_line}
 use Rattle.rt_script.specs.declared.call_form.CallForm.{CallForm}
 use Rattle.rt_script.specs.declared.call_form.CallForm.TheVariants as forms
@@ -37,21 +36,6 @@ form_with _ operands = None
 abbrev pub call_form : List (List ℕ) → Option (CallForm (List ℕ))
 call_form [] = None
 call_form (word ∷ operands) = option_and_then (λ verb. form_with verb operands) (verb_spelled word)
-
--- the form with its words seen
-abbrev pub form_map : {A B : Type 0} → (A → B) → CallForm A → CallForm B
-form_map see (forms.OnLock verb lock) = forms.OnLock verb (see lock)
-form_map see (forms.State state) = forms.State state
-form_map see forms.Schedule = forms.Schedule
-form_map see (forms.Wake task) = forms.Wake (see task)
-form_map see (forms.Signal task) = forms.Signal (see task)
-form_map see (forms.SetPrio task prio) = forms.SetPrio (see task) (see prio)
-form_map see (forms.Move cpu) = forms.Move (see cpu)
-
--- no call puts a task into the state of one that waits for a lock
-abbrev pub SetsState : {W : Type 0} → CallForm W → Type 0
-SetsState (forms.State state) = state ≢ LockWait
-SetsState _ = Unit {0}
 
 -- ---- what a call of some form makes, its words from left to right
 

@@ -18,70 +18,70 @@ lock_kind_word kinds.RwSem = codes "rwsem"
 lock_kind_word kinds.Local = codes "local"
 
 -- a call on a lock
-abbrev pub on_lock : Script → List ℕ → LockId → List (List ℕ)
-on_lock script verb l = verb ∷ (lock_line script l).name ∷ []
+abbrev pub lock_call_words : Script → List ℕ → LockId → List (List ℕ)
+lock_call_words script verb l = verb ∷ (lock_line script l).name ∷ []
 
 -- a call on a task
-abbrev pub on_task : Script → List ℕ → TaskId → List (List ℕ)
-on_task script verb t = verb ∷ (task_line script t).name ∷ []
+abbrev pub task_call_words : Script → List ℕ → TaskId → List (List ℕ)
+task_call_words script verb t = verb ∷ (task_line script t).name ∷ []
 
 -- the words of a call
 abbrev pub call_words : Script → Call → List (List ℕ)
-call_words script (calls.Lock l) = on_lock script (codes "lock") l
-call_words script (calls.LockInt l) = on_lock script (codes "lockint") l
-call_words script (calls.TryLock l) = on_lock script (codes "trylock") l
-call_words script (calls.Unlock l) = on_lock script (codes "unlock") l
-call_words script (calls.Spin l) = on_lock script (codes "spin") l
-call_words script (calls.TrySpin l) = on_lock script (codes "tryspin") l
-call_words script (calls.Unspin l) = on_lock script (codes "unspin") l
-call_words script (calls.Read l) = on_lock script (codes "read") l
-call_words script (calls.TryRead l) = on_lock script (codes "tryread") l
-call_words script (calls.Unread l) = on_lock script (codes "unread") l
-call_words script (calls.Write l) = on_lock script (codes "write") l
-call_words script (calls.TryWrite l) = on_lock script (codes "trywrite") l
-call_words script (calls.Unwrite l) = on_lock script (codes "unwrite") l
-call_words script (calls.Downgrade l) = on_lock script (codes "downgrade") l
-call_words script (calls.Local l) = on_lock script (codes "local") l
-call_words script (calls.Unlocal l) = on_lock script (codes "unlocal") l
+call_words script (calls.Lock l) = lock_call_words script (codes "lock") l
+call_words script (calls.LockInt l) = lock_call_words script (codes "lockint") l
+call_words script (calls.TryLock l) = lock_call_words script (codes "trylock") l
+call_words script (calls.Unlock l) = lock_call_words script (codes "unlock") l
+call_words script (calls.Spin l) = lock_call_words script (codes "spin") l
+call_words script (calls.TrySpin l) = lock_call_words script (codes "tryspin") l
+call_words script (calls.Unspin l) = lock_call_words script (codes "unspin") l
+call_words script (calls.Read l) = lock_call_words script (codes "read") l
+call_words script (calls.TryRead l) = lock_call_words script (codes "tryread") l
+call_words script (calls.Unread l) = lock_call_words script (codes "unread") l
+call_words script (calls.Write l) = lock_call_words script (codes "write") l
+call_words script (calls.TryWrite l) = lock_call_words script (codes "trywrite") l
+call_words script (calls.Unwrite l) = lock_call_words script (codes "unwrite") l
+call_words script (calls.Downgrade l) = lock_call_words script (codes "downgrade") l
+call_words script (calls.Local l) = lock_call_words script (codes "local") l
+call_words script (calls.Unlocal l) = lock_call_words script (codes "unlocal") l
 call_words script (calls.State state) = codes "state" ∷ state_word state ∷ []
 call_words script calls.Schedule = codes "schedule" ∷ []
-call_words script (calls.Wake t) = on_task script (codes "wake") t
-call_words script (calls.Signal t) = on_task script (codes "signal") t
-call_words script (calls.SetPrio t prio) = on_task script (codes "setprio") t ++ decimal prio ∷ []
+call_words script (calls.Wake t) = task_call_words script (codes "wake") t
+call_words script (calls.Signal t) = task_call_words script (codes "signal") t
+call_words script (calls.SetPrio t prio) = task_call_words script (codes "setprio") t ++ decimal prio ∷ []
 call_words script (calls.Move cpu) = codes "move" ∷ decimal cpu.0 ∷ []
 
 -- ---- lines, without their line feeds
 
-abbrev pub cpus_text : ℕ → List ℕ
-cpus_text cpus = codes "cpus" ++ spaced (decimal cpus ∷ [])
+abbrev pub cpus_line_text : ℕ → List ℕ
+cpus_line_text cpus = codes "cpus" ++ spaced (decimal cpus ∷ [])
 
-abbrev pub task_text : TaskLine → List ℕ
-task_text task = codes "task" ++ spaced (task.name ∷ decimal task.own ∷ decimal task.cpu.0 ∷ [])
+abbrev pub task_line_text : TaskLine → List ℕ
+task_line_text task = codes "task" ++ spaced (task.name ∷ decimal task.own ∷ decimal task.cpu.0 ∷ [])
 
-abbrev pub lock_text : LockLine → List ℕ
-lock_text lock = codes "lock" ++ spaced (lock.name ∷ lock_kind_word lock.kind ∷ [])
+abbrev pub lock_line_text : LockLine → List ℕ
+lock_line_text lock = codes "lock" ++ spaced (lock.name ∷ lock_kind_word lock.kind ∷ [])
 
-abbrev pub call_text : Script → TaskLine → Call → List ℕ
-call_text script task call = codes "call" ++ spaced (task.name ∷ call_words script call)
+abbrev pub call_line_text : Script → TaskLine → Call → List ℕ
+call_line_text script task call = codes "call" ++ spaced (task.name ∷ call_words script call)
 
-abbrev pub pick_text : Script → TaskId → List ℕ
-pick_text script t = codes "pick" ++ spaced ((task_line script t).name ∷ [])
+abbrev pub pick_line_text : Script → TaskId → List ℕ
+pick_line_text script t = codes "pick" ++ spaced ((task_line script t).name ∷ [])
 
 -- the locks that have a line of their own: all but the cells of a local lock after its first
 abbrev pub lined_locks : Script → List LockLine
 lined_locks script = filter (λ (l : LockLine). is_first_cell l.cell) script.locks
 
 -- the lines of a task's calls
-abbrev pub calls_text : Script → TaskLine → List (List ℕ)
-calls_text script task = map (call_text script task) task.calls
+abbrev pub call_line_texts : Script → TaskLine → List (List ℕ)
+call_line_texts script task = map (call_line_text script task) task.calls
 
 -- ---- the text
 
 -- header, processors, tasks, locks, calls task by task, picks, and `go`
 abbrev pub canonical_lines : Script → List (List ℕ)
 canonical_lines script =
-    codes "rtscript 1" ∷ cpus_text script.cpus ∷ map task_text script.tasks ++ map lock_text (lined_locks script)
-    ++ flat_map (calls_text script) script.tasks ++ map (pick_text script) script.picks ++ codes "go" ∷ []
+    codes "rtscript 1" ∷ cpus_line_text script.cpus ∷ map task_line_text script.tasks ++ map lock_line_text (lined_locks script)
+    ++ flat_map (call_line_texts script) script.tasks ++ map (pick_line_text script) script.picks ++ codes "go" ∷ []
 
 -- a line with its line feed
 abbrev pub with_line_feed : List ℕ → List ℕ

@@ -1,4 +1,5 @@
 pub mod Adding
+pub mod CallForms
 pub mod Calls
 pub mod Canonical
 pub mod Digits

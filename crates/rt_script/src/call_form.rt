@@ -1,5 +1,6 @@
 ghost use Rattle.std.specs.Prelude.{◌≡◌, IfSome, option_map};
-ghost use Rattle.rt_script.specs.Calls.{call_form, form_map, SetsState};
+ghost use Rattle.rt_script.specs.CallForms.{form_map, IsSettable};
+ghost use Rattle.rt_script.specs.Calls.{call_form};
 
 use crate::pieces::Pieces;
 use crate::spelling::state_spelled;
@@ -21,7 +22,7 @@ pub(crate) enum CallForm<W> {
 /// The call that the words after a task's name have the form of.
 pub(crate) fn call_form<'a>(mut words: Pieces<'a>) -> Option<CallForm<&'a [u8]>>
     ensures form { option_map (λ form. form_map (λ word. word.now) form) result ≡ call_form words.entry }
-    ensures set { IfSome result SetsState }
+    ensures settable { IfSome result IsSettable }
 {
     let verb = Verb::read(words.next()?)?;
     match (verb, words.next(), words.next(), words.next()) {

@@ -72,7 +72,7 @@ pub(crate) fn kind_spelled(word: &[u8]) -> Option<Kind>
 /// The state that a word names.
 pub(crate) fn state_spelled(word: &[u8]) -> Option<TaskState>
     ensures state { result ≡ state_spelled word.now }
-    ensures set { IfSome result (λ state. state ≢ LockWait) }
+    ensures settable { IfSome result (λ state. state ≢ LockWait) }
 {
     if word == b"R".as_slice() {
         Some(TaskState::Running)

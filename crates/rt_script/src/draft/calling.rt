@@ -1,7 +1,8 @@
 // The calls that call lines make.
 ghost use Rattle.std.specs.Prelude.{◌≡◌, IfOk};
 ghost use Rattle.rt_base.specs.Script.{IsCallOf};
-ghost use Rattle.rt_script.specs.Calls.{reading_call, call_on, lock_call, call_in, form_map, SetsState};
+ghost use Rattle.rt_script.specs.CallForms.{form_map, IsSettable};
+ghost use Rattle.rt_script.specs.Calls.{reading_call, call_on, lock_call, call_in};
 ghost use Rattle.rt_script.specs.Results.{Gives};
 
 use super::Draft;
@@ -15,7 +16,7 @@ use rt_base::{Call, Kind, LockId};
 impl Draft {
     /// The call that a form makes, its words from left to right.
     pub(super) fn call_in(&self, form: CallForm<&[u8]>) -> Result<Call, LineError>
-        requires { SetsState form }
+        requires { IsSettable form }
         ensures call { Gives (λ call. call) result (call_in self.now.script (form_map (λ word. word.now) form.entry)) }
         ensures fits { IfOk result (IsCallOf self.now.script) }
     {

@@ -15,8 +15,8 @@ abbrev pub fails : Calls → Bool
 fails calls = list_any (λ n. n == calls.made) calls.fail
 
 -- one call more
-abbrev pub with_call : Calls → Calls
-with_call calls =
+abbrev pub after_one_call : Calls → Calls
+after_one_call calls =
     record { fail = calls.fail; made = raised calls.made; faults = if fails calls then raised calls.faults else calls.faults }
 
 -- the bytes that are left of a source in memory, and its calls

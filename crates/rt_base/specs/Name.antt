@@ -8,6 +8,6 @@ use Rattle.rt_base.specs.declared.limits.TheConstants.{MAX_NAME}
 abbrev pub is_name_byte : ℕ → Bool
 is_name_byte b = is_ascii_lowercase b || is_ascii_digit b || b == 95
 
--- at least 1 such byte, and not too many, with a letter first
+-- at least 1 such byte and at most as many as a name may have, with a letter first
 abbrev pub is_name : List ℕ → Bool
 is_name word = nat_lt 0 (length word) && nat_le (length word) MAX_NAME && is_ascii_lowercase (slice_index word 0) && list_all is_name_byte word

@@ -1,5 +1,5 @@
 ghost use Rattle.std.specs.Prelude.{◌≡◌, ◌≤◌, is_err, OnErr};
-ghost use Rattle.rt_base.specs.Failing.{Calls, fails, with_call};
+ghost use Rattle.rt_base.specs.Failing.{Calls, fails, after_one_call};
 ghost use Rattle.rt_base.specs.Outside.{Rises};
 
 use crate::Failed;
@@ -46,7 +46,7 @@ impl Failing {
     /// Makes one call more, which fails where its number stands in the list.
     pub(crate) fn call(&mut self) -> Result<(), Failed>
         ensures fails { is_err result ≡ fails self.old }
-        ensures calls { self.new ≡ with_call self.old }
+        ensures calls { self.new ≡ after_one_call self.old }
         ensures cause { OnErr result (Rises self.old.faults self.new.faults) }
         ensures count { self.old.faults ≤ self.new.faults }
     {

@@ -25,7 +25,7 @@ pub const MAX_REALTIME: u8 = 99;
 pub const MAX_CPUS: u8 = 8;
 
 /// The greatest processor.
-pub const MAX_CPU: u8 = 7;
+pub const MAX_CPU: u8 = MAX_CPUS - 1;
 
 /// The most characters of a name.
 pub const MAX_NAME: usize = 16;
@@ -37,4 +37,4 @@ pub const BUDGET_FACTOR: u64 = 16;
 pub const TEXT_LIMIT: u32 = 4_294_967_295;
 
 /// A line of a journal or a report, with its line feed, is shorter, in bytes.
-pub const MAX_LINE: usize = 4096;
+pub const LINE_LIMIT: usize = 4096;

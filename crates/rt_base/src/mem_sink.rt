@@ -1,5 +1,5 @@
 ghost use Rattle.std.specs.Prelude.{◌≡◌, ◌≤◌, [], false, length, is_err, IfOk, OnOk, OnErr};
-ghost use Rattle.rt_base.specs.Failing.{Store, fails, with_call};
+ghost use Rattle.rt_base.specs.Failing.{Store, fails, after_one_call};
 ghost use Rattle.rt_base.specs.Outside.{Rises, Appends};
 ghost use Rattle.rt_base.specs.Kept.{told, with_piece};
 
@@ -49,7 +49,7 @@ impl Sink for MemSink {
     /// Takes the whole piece, where the call isn't one that fails, and no memory.
     fn write(&mut self, piece: &[u8]) -> Result<usize, Failed>
         ensures fails { is_err result ≡ fails self.old.calls }
-        ensures calls { self.new.calls ≡ with_call self.old.calls }
+        ensures calls { self.new.calls ≡ after_one_call self.old.calls }
         ensures cause { OnErr result (Rises self.old.calls.faults self.new.calls.faults) }
         ensures count { self.old.calls.faults ≤ self.new.calls.faults }
         ensures all { IfOk result (λ n. n ≡ length piece.now) }

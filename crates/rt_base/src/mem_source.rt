@@ -1,5 +1,5 @@
 ghost use Rattle.std.specs.Prelude.{◌≡◌, ◌≤◌, min, ◌++◌, length, take, Some, is_err, IfOk, OnErr};
-ghost use Rattle.rt_base.specs.Failing.{Supply, fails, with_call};
+ghost use Rattle.rt_base.specs.Failing.{Supply, fails, after_one_call};
 ghost use Rattle.rt_base.specs.Outside.{Rises};
 
 use crate::failing::Failing;
@@ -38,7 +38,7 @@ impl Source for MemSource {
 
     fn read(&mut self, buf: &mut [u8]) -> Result<usize, Failed>
         ensures fails { is_err result ≡ fails self.old.calls }
-        ensures calls { self.new.calls ≡ with_call self.old.calls }
+        ensures calls { self.new.calls ≡ after_one_call self.old.calls }
         ensures cause { OnErr result (Rises self.old.calls.faults self.new.calls.faults) }
         ensures count { self.old.calls.faults ≤ self.new.calls.faults }
         ensures all { IfOk result (λ n. n ≡ min (length self.old.left) (length buf.old)) }

@@ -25,7 +25,7 @@ use crate::report::{write_lock_line, write_task_line};
 use crate::shared::Shared;
 use crate::start::threads;
 use crate::thread::Thread;
-use rt_base::limits::{MAX_LINE, MAX_TASKS};
+use rt_base::limits::{LINE_LIMIT, MAX_TASKS};
 use rt_base::{Call, LockId, NoMemory, Prio, TaskId};
 use rt_locks::LockCell;
 use rt_model::{Event, Phase, Row};
@@ -239,13 +239,13 @@ impl Core {
 }
 
 impl Core {
-    /// Writes line i of the report, counted from 0, the tasks before the locks. It is shorter than `MAX_LINE`.
+    /// Writes line i of the report, counted from 0, the tasks before the locks. It is shorter than `LINE_LIMIT`.
     pub fn report_line(&self, script: &Script, i: u32, out: &mut Vec<u8>)
         requires script { IsOf script.now self.now.state }
         requires line { i < length script.now.tasks + length script.now.locks }
-        requires room { vec_len out.old + MAX_LINE ≤ vec_capacity out.old }
+        requires room { vec_len out.old + LINE_LIMIT ≤ vec_capacity out.old }
         ensures text { out.new.items ≡ out.old.items ++ report_line_of script.now self.now.state i }
-        ensures short { length (report_line_of script.now self.now.state i) < MAX_LINE }
+        ensures short { length (report_line_of script.now self.now.state i) < LINE_LIMIT }
         ensures capacity { vec_capacity out.old ≤ vec_capacity out.new }
     {
         let tasks = script.tasks();
@@ -260,9 +260,9 @@ impl Core {
     fn task_line(&self, script: &Script, t: TaskId, out: &mut Vec<u8>)
         requires script { IsOf script.now self.now.state }
         requires task { t.0 < length script.now.tasks }
-        requires room { vec_len out.old + MAX_LINE ≤ vec_capacity out.old }
+        requires room { vec_len out.old + LINE_LIMIT ≤ vec_capacity out.old }
         ensures text { out.new.items ≡ out.old.items ++ task_report script.now self.now.state t }
-        ensures short { length (task_report script.now self.now.state t) < MAX_LINE }
+        ensures short { length (task_report script.now self.now.state t) < LINE_LIMIT }
         ensures capacity { vec_capacity out.old ≤ vec_capacity out.new }
     {
         write_task_line(script, t, self.cell(t), self.thread(t), self.note(t), out);
@@ -272,9 +272,9 @@ impl Core {
     fn lock_line(&self, script: &Script, l: LockId, out: &mut Vec<u8>)
         requires script { IsOf script.now self.now.state }
         requires lock { l.0 < length script.now.locks }
-        requires room { vec_len out.old + MAX_LINE ≤ vec_capacity out.old }
+        requires room { vec_len out.old + LINE_LIMIT ≤ vec_capacity out.old }
         ensures text { out.new.items ≡ out.old.items ++ lock_report script.now self.now.state l }
-        ensures short { length (lock_report script.now self.now.state l) < MAX_LINE }
+        ensures short { length (lock_report script.now self.now.state l) < LINE_LIMIT }
         ensures capacity { vec_capacity out.old ≤ vec_capacity out.new }
     {
         write_lock_line(script, l, self.lock(l), self.shared.readers(l), out);

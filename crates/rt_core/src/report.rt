@@ -6,7 +6,7 @@ ghost use Rattle.rt_core.specs.Report.{bit_word, priority_words, progress_words,
 
 use crate::note::Note;
 use crate::thread::Thread;
-use rt_base::limits::{MAX_LINE, MAX_PRIO, MAX_TASKS};
+use rt_base::limits::{LINE_LIMIT, MAX_PRIO, MAX_TASKS};
 use rt_base::{Kind, LockId, TaskId};
 use rt_events::{
     WORD_ROOM, append, push_byte, push_digits, push_lock, push_number, push_task,
@@ -17,7 +17,7 @@ use rt_model::{ReaderCell, Row};
 use rt_script::Script;
 use rt_tasks::TaskCell;
 
-/// Writes a task's line of the report, shorter than `MAX_LINE`.
+/// Writes a task's line of the report, shorter than `LINE_LIMIT`.
 pub(crate) fn write_task_line(
     script: &Script,
     t: TaskId,
@@ -28,9 +28,9 @@ pub(crate) fn write_task_line(
 )
     requires task { t.0 < length script.now.tasks }
     requires note { IsNoteWithin (length script.now.tasks) (length script.now.locks) note }
-    requires room { vec_len out.old + MAX_LINE ≤ vec_capacity out.old }
+    requires room { vec_len out.old + LINE_LIMIT ≤ vec_capacity out.old }
     ensures text { out.new.items ≡ out.old.items ++ task_line_of script.now t cell.now thread.now note }
-    ensures short { length (task_line_of script.now t cell.now thread.now note) < MAX_LINE }
+    ensures short { length (task_line_of script.now t cell.now thread.now note) < LINE_LIMIT }
     ensures capacity { vec_capacity out.old ≤ vec_capacity out.new }
 {
     let named = t.0 < script.tasks();
@@ -103,7 +103,7 @@ fn push_note(script: &Script, note: Note, out: &mut Vec<u8>)
     }
 }
 
-/// Writes a lock's line of the report, shorter than `MAX_LINE`.
+/// Writes a lock's line of the report, shorter than `LINE_LIMIT`.
 pub(crate) fn write_lock_line(
     script: &Script,
     l: LockId,
@@ -115,9 +115,9 @@ pub(crate) fn write_lock_line(
     requires owner { IfSome cell.now.part.owner (λ t. t.0 < length script.now.tasks) }
     requires rows { All (λ row. row.who < length script.now.tasks) cell.now.part.rows }
     requires few { cell.now.tasks ≤ MAX_TASKS }
-    requires room { vec_len out.old + MAX_LINE ≤ vec_capacity out.old }
+    requires room { vec_len out.old + LINE_LIMIT ≤ vec_capacity out.old }
     ensures text { out.new.items ≡ out.old.items ++ lock_line_of script.now l cell.now.part readers }
-    ensures short { length (lock_line_of script.now l cell.now.part readers) < MAX_LINE }
+    ensures short { length (lock_line_of script.now l cell.now.part readers) < LINE_LIMIT }
     ensures capacity { vec_capacity out.old ≤ vec_capacity out.new }
 {
     let named = l.0 < script.locks();

@@ -8,7 +8,7 @@ use crate::appending::{push_byte, push_digits, push_word};
 use crate::entry::Entry;
 use crate::operands::push_operands;
 use crate::words::{WORD_ROOM, kind_text, push_task, reply_text};
-use rt_base::limits::MAX_LINE;
+use rt_base::limits::LINE_LIMIT;
 use rt_base::{Prio, Reply, TaskId};
 use rt_script::Script;
 
@@ -16,9 +16,9 @@ use rt_script::Script;
 /// kind, what the kind tells, the boost and the answer.
 pub fn write_line(script: &Script, n: &Entry, out: &mut Vec<u8>)
     requires entry { IsWellFormed script.now n.now }
-    requires room { vec_len out.old + MAX_LINE ≤ vec_capacity out.old }
+    requires room { vec_len out.old + LINE_LIMIT ≤ vec_capacity out.old }
     ensures text { out.new.items ≡ out.old.items ++ line_of script.now n.now }
-    ensures short { length (line_of script.now n.now) < MAX_LINE }
+    ensures short { length (line_of script.now n.now) < LINE_LIMIT }
     ensures capacity { vec_capacity out.old ≤ vec_capacity out.new }
 {
     let named = n.task.0 < script.tasks();
@@ -29,7 +29,7 @@ pub fn write_line(script: &Script, n: &Entry, out: &mut Vec<u8>)
 // Writes the line of an entry whose names are the script's.
 fn push_parts(script: &Script, n: &Entry, out: &mut Vec<u8>)
     requires named { IsNamedIn script.now n.now }
-    requires room { vec_len out.old + MAX_LINE ≤ vec_capacity out.old }
+    requires room { vec_len out.old + LINE_LIMIT ≤ vec_capacity out.old }
     ensures text { out.new.items ≡ out.old.items ++ line_of script.now n.now }
     ensures capacity { vec_capacity out.old ≤ vec_capacity out.new }
 {

@@ -93,7 +93,7 @@ fn by(task: TaskId, e: &Event) -> Event {
 fn tells(rt: &impl Abort, script: &Script, e: &Event, want: &str, out: &mut Vec<u8>) {
     let entry = entry_of(7, e);
     assert!(rt; is_well_formed(script, &entry));
-    assert!(rt; out.len() == 0 && out.capacity() >= MAX_LINE);
+    assert!(rt; out.len() == 0 && out.capacity() >= LINE_LIMIT);
     write_line(script, &entry, out);
     assert_eq!(rt; out.as_slice(), want.as_bytes());
     out.clear();
@@ -102,7 +102,7 @@ fn tells(rt: &impl Abort, script: &Script, e: &Event, want: &str, out: &mut Vec<
 #[test]
 fn each_kind_on_a_queue_has_its_line(rt: HostRuntime) -> Result<(), Fail> {
     let script = read_script(rt.alloc(), TEXT.as_bytes())?;
-    let mut out = Vec::with_capacity(rt.alloc(), MAX_LINE)?;
+    let mut out = Vec::with_capacity(rt.alloc(), LINE_LIMIT)?;
     let (walk, give) = (on(Walk, CELL), on(Give, M));
     for (e, want) in [
         (answered(Got, &on(Fast, M)), "7 a fast m -> got\n"),
@@ -137,7 +137,7 @@ fn each_kind_on_a_queue_has_its_line(rt: HostRuntime) -> Result<(), Fail> {
 #[test]
 fn each_other_kind_has_its_line(rt: HostRuntime) -> Result<(), Fail> {
     let script = read_script(rt.alloc(), TEXT.as_bytes())?;
-    let mut out = Vec::with_capacity(rt.alloc(), MAX_LINE)?;
+    let mut out = Vec::with_capacity(rt.alloc(), LINE_LIMIT)?;
     let (busy, open, wake) = (on(Busy, X), on(WOpen, X), about(B, &bare(Wake)));
     for (e, want) in [
         (answered(Got, &on(RIn, X)), "7 a rin x -> got\n"),
@@ -179,7 +179,7 @@ fn each_other_kind_has_its_line(rt: HostRuntime) -> Result<(), Fail> {
 #[test]
 fn boost_stands_between_operands_and_answer(rt: HostRuntime) -> Result<(), Fail> {
     let script = read_script(rt.alloc(), TEXT.as_bytes())?;
-    let mut out = Vec::with_capacity(rt.alloc(), MAX_LINE)?;
+    let mut out = Vec::with_capacity(rt.alloc(), LINE_LIMIT)?;
     let prio = Prio::new(20).ok_or("no priority")?;
     let give = answered(Done, &with(None, Some(B), &on(Give, M)));
     let boosted = Event {
@@ -314,7 +314,7 @@ fn events_are_disjoint_by_what_they_touch(rt: HostRuntime) {
 
 #[test]
 fn header_and_end_lines(rt: HostRuntime) -> Result<(), Fail> {
-    let mut out = Vec::with_capacity(rt.alloc(), MAX_LINE)?;
+    let mut out = Vec::with_capacity(rt.alloc(), LINE_LIMIT)?;
     write_header(&mut out);
     assert_eq!(rt; out.as_slice(), b"rtjournal 1\n".as_slice());
     for (ended, want) in [
@@ -322,7 +322,7 @@ fn header_and_end_lines(rt: HostRuntime) -> Result<(), Fail> {
         (Ended::Stuck, "end stuck\n"),
         (Ended::Limit, "end limit\n"),
     ] {
-        let mut out = Vec::with_capacity(rt.alloc(), MAX_LINE)?;
+        let mut out = Vec::with_capacity(rt.alloc(), LINE_LIMIT)?;
         write_end_line(ended, &mut out);
         assert_eq!(rt; out.as_slice(), want.as_bytes());
     }

@@ -6,7 +6,7 @@ ghost use Rattle.rt_locks.specs.OwnerCell.{HasPriorities};
 ghost use Rattle.rt_locks.specs.Top.{is_top, top_changed};
 
 use crate::reason::reason_among;
-use crate::top::{first_other, is_changed, is_first, key_in, task_in};
+use crate::top::{first_other, is_changed, is_first, key_in, task_of_row};
 use rt_base::{Kind, NoMemory, Prio, TaskId};
 use rt_model::{Reason, Row};
 use rt_waiters::{Steps, Waiters};
@@ -73,7 +73,7 @@ impl LockCell {
     pub fn top_task(&self) -> Option<TaskId>
         ensures { result ≡ top_task self.now.part.rows }
     {
-        task_in(self.waiters.top())
+        task_of_row(self.waiters.top())
     }
 
     /// The waiters.
@@ -223,6 +223,6 @@ impl LockCell {
         let top = self.waiters.top();
         self.owner = None;
         self.bit = top.is_some();
-        task_in(top)
+        task_of_row(top)
     }
 }

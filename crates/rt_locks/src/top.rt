@@ -19,7 +19,7 @@ pub fn key_in(row: Option<Row>) -> Option<Prio>
 }
 
 // The task of a row.
-pub fn task_in(row: Option<Row>) -> Option<TaskId>
+pub fn task_of_row(row: Option<Row>) -> Option<TaskId>
     ensures { result ≡ option_map task_of row }
 {
     match row {

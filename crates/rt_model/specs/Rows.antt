@@ -75,7 +75,7 @@ reason_before t key kind top =
     else if nat_eq key top.key && nat_lt MAX_REALTIME key && spins kind then Some reasons.Equal
     else None
 
--- why it may take one with this top waiter, or none
+-- why it may take one with this top waiter, or with nobody waiting
 abbrev pub reason_among : TaskId → ℕ → Kind → Option Row → Option Reason
 reason_among t key kind None = Some reasons.Free
 reason_among t key kind (Some top) = reason_before t key kind top

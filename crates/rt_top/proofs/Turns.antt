@@ -9,7 +9,7 @@ use Rattle.rt_base.specs.declared.ended.Ended.TheVariants.{Done, Stuck, Limit}
 use Rattle.rt_base.specs.declared.call.Call.{Call}
 use Rattle.rt_base.specs.declared.id.TaskId.{TaskId}
 use Rattle.rt_model.specs.declared.event.Event.{Event}
-use Rattle.rt_model.specs.State.{State, thread_part}
+use Rattle.rt_model.specs.State.{State, shared, thread_part}
 use Rattle.rt_model.specs.Parts.{ThreadPart, call_of}
 use Rattle.rt_model.specs.NextEvent.{next_event, event_of}
 use Rattle.rt_model.specs.StateAfter.{state_after}
@@ -129,7 +129,7 @@ done-none s done next = no_call (call_of thread) (thread_at s.threads next.0 _ d
     thread : ThreadPart
     thread = thread_part s t
 
-    no_call : (o : Option Call) → is_none o ≡ true → is_some (event_of s t thread o) ≡ true → ⊥
+    no_call : (o : Option Call) → is_none o ≡ true → is_some (event_of (shared s) t thread o) ≡ true → ⊥
     no_call None none some = cc some
     no_call (Some call) none some = cc none
 

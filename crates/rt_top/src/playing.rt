@@ -17,7 +17,7 @@ ghost use Rattle.rt_top.specs.Turns.{IsCutShort};
 use crate::order::pick_next;
 use crate::printing::{flush, flush_if_full};
 use crate::progress::Progress;
-use rt_base::limits::MAX_LINE;
+use rt_base::limits::LINE_LIMIT;
 use rt_base::{Ended, Failed, Sink, TaskId};
 use rt_core::Core;
 use rt_events::{entry_of, write_line};
@@ -37,7 +37,7 @@ fn make_event<K: Sink>(
     requires script { IsOf script.now core.old.state }
     requires entry { IsWellFormed script.now (entry number e.now) }
     requires made { core.old.made < 2 ^ 62 }
-    requires room { MAX_LINE ≤ vec_capacity buf.old }
+    requires room { LINE_LIMIT ≤ vec_capacity buf.old }
     ensures prints { Prints result (K.held out.old) buf.old.items (K.held out.new) buf.new.items (K.faults out.old) (K.faults out.new) (line_of script.now (entry number e.now)) }
     ensures state { OnOk result (core.new.state ≡ state_after core.old.state e.now) }
     ensures made { OnOk result (core.new.made ≡ core.old.made + 1) }
@@ -65,7 +65,7 @@ fn play<K: Sink>(
     requires script { IsOf script.now core.old.state }
     requires made { core.old.made < 2 ^ 62 }
     requires number { first + so_far.count < 2 ^ 63 }
-    requires room { MAX_LINE ≤ vec_capacity buf.old }
+    requires room { LINE_LIMIT ≤ vec_capacity buf.old }
     ensures moves { IfOk result (λ now. Moves script.now first t (next_event core.old.state t) core.old.state core.new.state so_far now (K.held out.old) buf.old.items (K.held out.new) buf.new.items) }
     ensures made { IfOk result (λ now. core.new.made + so_far.count ≡ core.old.made + now.count) }
     ensures few { IfOk result (λ now. now.count ≤ so_far.count + 1) }
@@ -98,7 +98,7 @@ fn play_picks<K: Sink>(
 ) -> Result<Progress, Failed>
     requires script { IsOf script.now core.old.state }
     requires made { core.old.made < 2 ^ 61 }
-    requires room { MAX_LINE ≤ vec_capacity buf.old }
+    requires room { LINE_LIMIT ≤ vec_capacity buf.old }
     ensures prints { Prints result (K.held out.old) buf.old.items (K.held out.new) buf.new.items (K.faults out.old) (K.faults out.new)
         (lines_of script.now (core.old.made + 1) (picked script.now.picks core.old.state None).events) }
     ensures state { OnOk result (core.new.state ≡ (picked script.now.picks core.old.state None).state) }
@@ -134,7 +134,7 @@ pub fn run_picks<K: Sink>(
     requires script { IsOf script.now core.old.state }
     requires made { core.old.made < 2 ^ 61 }
     requires empty { buf.old.items ≡ [] }
-    requires room { MAX_LINE ≤ vec_capacity buf.old }
+    requires room { LINE_LIMIT ≤ vec_capacity buf.old }
     ensures writes { Writes result (K.held out.old) (K.held out.new) (K.faults out.old) (K.faults out.new)
         (lines_of script.now (core.old.made + 1) (picked script.now.picks core.old.state None).events) }
     ensures state { OnOk result (core.new.state ≡ (picked script.now.picks core.old.state None).state) }
@@ -167,7 +167,7 @@ fn play_chosen<K: Sink>(
     requires last { IfSome last (λ t. t.0 < length script.now.tasks) }
     requires made { core.old.made + turns < 2 ^ 62 }
     requires number { first + turns < 2 ^ 62 }
-    requires room { MAX_LINE ≤ vec_capacity buf.old }
+    requires room { LINE_LIMIT ≤ vec_capacity buf.old }
     ensures prints { Prints result (K.held out.old) buf.old.items (K.held out.new) buf.new.items (K.faults out.old) (K.faults out.new)
         (lines_of script.now first (chosen turns core.old.state last).events) }
     ensures state { OnOk result (core.new.state ≡ (chosen turns core.old.state last).state) }
@@ -204,7 +204,7 @@ pub fn finish<K: Sink>(
     requires made { core.old.made + turns < 2 ^ 62 }
     requires number { first + turns < 2 ^ 62 }
     requires empty { buf.old.items ≡ [] }
-    requires room { MAX_LINE ≤ vec_capacity buf.old }
+    requires room { LINE_LIMIT ≤ vec_capacity buf.old }
     ensures writes { Writes result (K.held out.old) (K.held out.new) (K.faults out.old) (K.faults out.new)
         (lines_of script.now first (chosen turns core.old.state last).events) }
     ensures state { OnOk result (core.new.state ≡ (chosen turns core.old.state last).state) }

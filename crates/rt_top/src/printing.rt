@@ -2,7 +2,7 @@
 ghost use Rattle.std.specs.Prelude.{◌≡◌, ◌+◌, ◌≤◌, [], vec_len, vec_capacity, OnOk};
 ghost use Rattle.rt_top.specs.Printing.{Prints};
 
-use rt_base::limits::MAX_LINE;
+use rt_base::limits::LINE_LIMIT;
 use rt_base::{Failed, Sink, write_whole};
 
 /// Writes what is gathered to the sink.
@@ -18,13 +18,13 @@ pub fn flush<K: Sink>(buf: &mut Vec<u8>, out: &mut K) -> Result<(), Failed>
 
 /// Writes what is gathered to the sink, where there isn't room for one more line.
 pub fn flush_if_full<K: Sink>(buf: &mut Vec<u8>, out: &mut K) -> Result<(), Failed>
-    requires { MAX_LINE ≤ vec_capacity buf.old }
+    requires { LINE_LIMIT ≤ vec_capacity buf.old }
     ensures prints { Prints result (K.held out.old) buf.old.items (K.held out.new) buf.new.items (K.faults out.old) (K.faults out.new) [] }
-    ensures kept { vec_len buf.old + MAX_LINE ≤ vec_capacity buf.old → (buf.new.items ≡ buf.old.items) × (out.new ≡ out.old) }
-    ensures room { OnOk result (vec_len buf.new + MAX_LINE ≤ vec_capacity buf.new) }
+    ensures kept { vec_len buf.old + LINE_LIMIT ≤ vec_capacity buf.old → (buf.new.items ≡ buf.old.items) × (out.new ≡ out.old) }
+    ensures room { OnOk result (vec_len buf.new + LINE_LIMIT ≤ vec_capacity buf.new) }
     ensures capacity { vec_capacity buf.old ≤ vec_capacity buf.new }
 {
-    if buf.capacity() - buf.len() < MAX_LINE {
+    if buf.capacity() - buf.len() < LINE_LIMIT {
         flush(buf, out)?;
     }
     Ok(())

@@ -14,7 +14,7 @@ use crate::options::MAX_TURNS;
 use crate::playing::{finish, run_picks};
 use crate::printing::flush;
 use crate::reporting::write_report;
-use rt_base::limits::MAX_LINE;
+use rt_base::limits::LINE_LIMIT;
 use rt_base::{Ended, Failed, Sink};
 use rt_core::Core;
 use rt_events::write_header;
@@ -23,7 +23,7 @@ use rt_script::Script;
 // Writes the first line of a journal.
 fn print_header<K: Sink>(buf: &mut Vec<u8>, out: &mut K) -> Result<(), Failed>
     requires empty { buf.old.items ≡ [] }
-    requires room { MAX_LINE ≤ vec_capacity buf.old }
+    requires room { LINE_LIMIT ≤ vec_capacity buf.old }
     ensures writes { Writes result (K.held out.old) (K.held out.new) (K.faults out.old) (K.faults out.new) header }
     ensures buf { OnOk result (buf.new.items ≡ []) }
     ensures capacity { vec_capacity buf.old ≤ vec_capacity buf.new }
@@ -45,7 +45,7 @@ fn print_journal<K: Sink>(
     requires turns { turns ≤ MAX_TURNS }
     requires script { IsOf script.now core.old.state }
     requires empty { buf.old.items ≡ [] }
-    requires room { MAX_LINE ≤ vec_capacity buf.old }
+    requires room { LINE_LIMIT ≤ vec_capacity buf.old }
     ensures writes { Writes result (K.held out.old) (K.held out.new) (K.faults out.old) (K.faults out.new)
         (header ++ lines_of script.now 1 (replayed script.now turns).events) }
     ensures state { OnOk result (core.new.state ≡ (replayed script.now turns).state) }
@@ -74,7 +74,7 @@ pub fn print_replay<K: Sink>(
     requires turns { turns ≤ MAX_TURNS }
     requires script { IsOf script.now core.old.state }
     requires empty { buf.old.items ≡ [] }
-    requires room { MAX_LINE ≤ vec_capacity buf.old }
+    requires room { LINE_LIMIT ≤ vec_capacity buf.old }
     ensures writes { Writes result (K.held out.old) (K.held out.new) (K.faults out.old) (K.faults out.new)
         (replay_text script.now turns) }
     ensures ended { IfOk result (λ ended. ended_of (after (start script.now) (replayed script.now turns).events) ≡ ended) }

@@ -6,7 +6,7 @@ ghost use Rattle.rt_events.specs.Journal.{end_line};
 ghost use Rattle.rt_top.specs.Printing.{Prints};
 
 use crate::printing::{flush, flush_if_full};
-use rt_base::limits::MAX_LINE;
+use rt_base::limits::LINE_LIMIT;
 use rt_base::{Ended, Failed, Sink};
 use rt_core::Core;
 use rt_events::write_end_line;
@@ -22,7 +22,7 @@ pub fn write_report<K: Sink>(
 ) -> Result<(), Failed>
     requires script { IsOf script.now core.now.state }
     requires empty { buf.old.items ≡ [] }
-    requires room { MAX_LINE ≤ vec_capacity buf.old }
+    requires room { LINE_LIMIT ≤ vec_capacity buf.old }
     ensures writes { Writes result (K.held out.old) (K.held out.new) (K.faults out.old) (K.faults out.new) (end_line ended ++ report_of script.now core.now.state) }
     ensures buf { OnOk result (buf.new.items ≡ []) }
     ensures capacity { vec_capacity buf.old ≤ vec_capacity buf.new }
@@ -40,7 +40,7 @@ fn push_report<K: Sink>(
     out: &mut K,
 ) -> Result<(), Failed>
     requires script { IsOf script.now core.now.state }
-    requires room { MAX_LINE ≤ vec_capacity buf.old }
+    requires room { LINE_LIMIT ≤ vec_capacity buf.old }
     ensures prints { Prints result (K.held out.old) buf.old.items (K.held out.new) buf.new.items (K.faults out.old) (K.faults out.new) (report_of script.now core.now.state) }
     ensures capacity { vec_capacity buf.old ≤ vec_capacity buf.new }
 {

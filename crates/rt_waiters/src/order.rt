@@ -7,7 +7,7 @@ use rt_model::Row;
 use std::sync::ledger::Ledger;
 
 // Whether a row goes before another, `rt_waiter_node_less`: less key, or the same key and less ticket.
-// Rows are compared here alone, and each comparison is a step.
+// Rows are ordered here alone, and each comparison is a step.
 fn goes_before<L: Ledger>(row: &Row, other: &Row, steps: &mut Steps<L>) -> bool
     ensures answer { result ≡ goes_before row.now other.now }
     ensures cost { steps.new ≡ steps.old + 1 }

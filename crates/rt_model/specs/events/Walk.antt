@@ -9,7 +9,7 @@ walk = touches_alone (λ e. record nothing { lock = e.lock; other = e.other; own
 abbrev pub walkend : Rule
 walkend = touches_alone (λ e. record nothing { other = e.other })
 
--- the path
+-- the path; an effect of cycle will name what it changes too: the lock, the own task, and the lock's owner
 abbrev pub restart : Rule
 restart = touches_alone (λ e. record nothing { path = e.path })
 

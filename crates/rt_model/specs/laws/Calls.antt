@@ -15,7 +15,7 @@ use Rattle.rt_model.specs.Choice.{called_lock}
 use Rattle.rt_model.specs.State.{start, thread_part}
 use Rattle.rt_model.specs.Run.{after, ended_of}
 
--- the call can have an event of this kind with this answer
+-- the call can have an event of this kind with this answer; so far of the calls that are played
 abbrev pub can_have : Call → EventKind → Option Reply → Bool
 can_have (calls.Lock l) kinds.Fast (Some replies.Got) = true
 can_have (calls.Lock l) kinds.Mark None = true

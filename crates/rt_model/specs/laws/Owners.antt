@@ -10,6 +10,6 @@ abbrev pub owned_by : Option TaskId → TaskId → Bool
 owned_by None t = false
 owned_by (Some owner) t = nat_eq owner.0 t.0
 
--- a task owns a mutex exactly where it holds it
+-- a task owns a lock exactly where it holds it
 abbrev pub OwnersLaw : State → Type 0
 OwnersLaw s = (l : LockId) (t : TaskId) → (hold_of (thread_part s t) l).owns ≡ owned_by (owner_part s l).owner t

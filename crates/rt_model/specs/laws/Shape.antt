@@ -9,7 +9,7 @@ use Rattle.rt_model.specs.Parts.{OwnerPart, TaskPart, ThreadPart}
 use Rattle.rt_model.specs.State.{State, kinds_in}
 use Rattle.rt_model.specs.Stage.{IsServed}
 
--- a thread counts no more answers than it has calls, and each call is served
+-- a thread counts no more answers than it has calls, which are no more than a script may have, and each is served
 pub record IsThread (calls : List Call) (answered locks : ℕ) : Type 0 where
   pub within : answered ≤ length calls
   pub few : length calls ≤ MAX_CALLS
@@ -42,7 +42,7 @@ pub record SameSize (s other : State) : Type 0 where
   pub tasks : length other.tasks ≡ length s.tasks
   pub threads : length other.threads ≡ length s.threads
 
--- what the event's line and its effects look up is in the state
+-- the task, the lock, the owner, the one that is woken and the one whose priority changes are in the state
 pub record IsWithin (tasks locks : ℕ) (e : Event) : Type 0 where
   pub task : e.task.0 < tasks
   pub lock : IfSome e.lock (λ l. l.0 < locks)

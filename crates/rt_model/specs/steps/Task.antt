@@ -64,11 +64,12 @@ woken_up task = if sleeps task.state then record task { state = states.Running }
     else if sleeps task.saved then record task { saved = states.Running }
     else task
 
--- signal: the flag is set, and an interruptible sleep ends, and else one that is saved
+-- the state is the interruptible sleep
 abbrev pub is_interruptible : TaskState → Bool
 is_interruptible states.Interruptible = true
 is_interruptible _ = false
 
+-- signal: the flag is set, and an interruptible sleep ends, and else one that is saved
 abbrev pub signalled : TaskPart → TaskPart
 signalled task = if is_interruptible task.state then record task { signal = true; state = states.Running }
     else if is_interruptible task.saved then record task { signal = true; saved = states.Running }

@@ -13,7 +13,7 @@ use Rattle.rt_model.specs.Parts.{ThreadPart, call_of, hold_of}
 abbrev pub with_hold : ThreadPart → LockId → Bool → List Hold
 with_hold thread l owns = slice_set thread.holds l.0 (record (hold_of thread l) { owns = owns })
 
--- what a thread holds once its call has this answer
+-- what a thread holds once its call has this answer; so far of the calls of a mutex that are played
 abbrev pub holds_after : ThreadPart → Option Call → Reply → List Hold
 holds_after thread (Some (calls.Lock l)) replies.Got = with_hold thread l true
 holds_after thread (Some (calls.Unlock l)) replies.Done = with_hold thread l false

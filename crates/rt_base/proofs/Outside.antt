@@ -1,30 +1,16 @@
 -- One read or write after another.
-use Rattle.std.proofs.Common.{ℕ, ◌≤◌, List, [], ◌++◌, Option, Some, None, Result, Ok, Err, IsErr, OnErr, refl, sym, ap, ◌∙◌, subst, append_assoc, append-nil, arith}
+use Rattle.std.proofs.Common.{ℕ, List, [], ◌++◌, Option, Some, None, Result, Ok, Err, IsErr, OnErr, refl, sym, ap, ◌∙◌, subst, append_assoc, append-nil, arith}
 use Rattle.rt_base.specs.declared.fault.Failed.{Failed}
-use Rattle.rt_base.specs.Outside.{Rises, Takes, Appends, AppendsPrefix, Writes}
+use Rattle.rt_base.specs.Outside.{Takes, Appends, AppendsPrefix, Writes}
 
 -- what holds, holds where there was an error
 pub on_err : {T E P : Type 0} (result : Result T E) → P → OnErr result P
 on_err (Ok x) p = tt
 on_err (Err e) p = p
 
--- the count rises where it rises last
-pub Rises-then : (before mid after : ℕ) → before ≤ mid → Rises mid after → Rises before after
-Rises-then before mid after le rises = omega arith
-
--- the count has risen where it rose first
-pub Rises-since : (before mid after : ℕ) → Rises before mid → mid ≤ after → Rises before after
-Rises-since before mid after rises le = omega arith
-
 pub Takes-nothing : (left : Option (List ℕ)) → Takes left [] left
 Takes-nothing None = tt
 Takes-nothing (Some rest) = (rest, refl, refl)
-
-pub Takes-then : (before mid after : Option (List ℕ)) (xs ys : List ℕ) → Takes before xs mid → Takes mid ys after → Takes before (xs ++ ys) after
-Takes-then None mid after xs ys first second = tt
-Takes-then (Some bytes) mid after xs ys first second =
-    let then_ys = subst (λ (left : Option (List ℕ)). Takes left ys after) first.2 second in
-    (then_ys.0, first.1 ∙ (ap (λ rest. xs ++ rest) then_ys.1 ∙ sym (append_assoc xs ys then_ys.0)), then_ys.2)
 
 pub Appends-nothing : (held : Option (List ℕ)) → Appends held [] held
 Appends-nothing None = tt
@@ -36,10 +22,6 @@ Appends-then before mid (Some bytes) xs ys first second =
     let only_xs = subst (λ (held : Option (List ℕ)). Appends before xs held) second.1 first in
     (only_xs.0, only_xs.1, second.2 ∙ (ap (λ held. held ++ ys) only_xs.2 ∙ append_assoc only_xs.0 xs ys))
 
--- the whole is a prefix
-pub AppendsPrefix-whole : (before after : Option (List ℕ)) (bytes : List ℕ) → Appends before bytes after → AppendsPrefix before bytes after
-AppendsPrefix-whole before after bytes whole = (bytes, [], append-nil bytes, whole)
-
 -- a prefix of the first bytes is a prefix of all
 pub AppendsPrefix-more : (before after : Option (List ℕ)) (xs ys : List ℕ) → AppendsPrefix before xs after → AppendsPrefix before (xs ++ ys) after
 AppendsPrefix-more before after xs ys part =
@@ -49,11 +31,6 @@ AppendsPrefix-more before after xs ys part =
 pub AppendsPrefix-then : (before mid after : Option (List ℕ)) (xs ys : List ℕ) → Appends before xs mid → AppendsPrefix mid ys after → AppendsPrefix before (xs ++ ys) after
 AppendsPrefix-then before mid after xs ys first part =
     (xs ++ part.0, part.1, append_assoc xs part.0 part.1 ∙ ap (λ rest. xs ++ rest) part.2, Appends-then before mid after xs part.0 first part.3)
-
--- a call that wrote nothing and didn't fail
-pub Writes-nothing : {T : Type 0} (x : T) (held : Option (List ℕ)) (faults : ℕ) → Writes (Ok x) held held faults faults []
-Writes-nothing x held faults =
-    record { whole = Appends-nothing held; no_fault = refl; part = tt; cause = tt; count = omega arith }
 
 -- a call that goes on from one that wrote it all, and writes no more itself
 pub Writes-as_ok : {T U : Type 0} {held_before held_after : Option (List ℕ)} {faults_before faults_after : ℕ} {bytes : List ℕ} {x : T} {y : U}

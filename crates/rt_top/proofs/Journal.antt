@@ -1,7 +1,6 @@
 -- The parts of the text of a replay.
-use Rattle.std.proofs.Common.{◌≡◌, ℕ, ◌+◌, ◌*◌, ◌≤◌, ◌++◌, length, Option, None, sym, ap, ◌∙◌, append_assoc, arith}
-use Rattle.std.proofs.Math.Nat.{mul-le-mul}
-use Rattle.rt_base.specs.Script.{Script, budget_of, all_calls, IsScript}
+use Rattle.std.proofs.Common.{◌≡◌, ℕ, ◌+◌, ◌++◌, length, Option, None, sym, ap, ◌∙◌, append_assoc, arith}
+use Rattle.rt_base.specs.Script.{Script}
 use Rattle.rt_base.specs.declared.ended.Ended.{Ended}
 use Rattle.rt_base.specs.declared.ended.Ended.TheVariants as ends
 use Rattle.rt_base.specs.declared.id.TaskId.{TaskId}
@@ -17,16 +16,6 @@ use Rattle.rt_top.specs.Status.{status_of}
 use Rattle.rt_top.specs.Turns.{after_picks}
 use Rattle.rt_top.specs.Answer.{Output, IsPrinted, Replays}
 use Rattle.rt_top.proofs.PlayLoop.{lines_of-append}
-
--- the budget of a script is small
-pub budget_le : (script : Script) → IsScript script → budget_of script ≤ 17371200
-budget_le script valid =
-    let tasks = valid.tasks in
-    let calls = valid.calls in
-    let few : length script.tasks + 2 ≤ 66 = omega arith in
-    let more : length script.tasks + all_calls script + 2 ≤ 16450 = omega arith in
-    let some : 16 * (length script.tasks + 2) ≤ 1056 = omega arith in
-    mul-le-mul some more
 
 -- what is played of a script first: the picks
 abbrev pub played_picks : Script → Played

@@ -43,11 +43,6 @@ pub record Going (script : Script) (first : ℕ) (s0 : State) (whole rest : Play
 pub begins : (script : Script) (first : ℕ) (s : State) (whole : Played) (h : Option (List ℕ)) (b : List ℕ) → Going script first s whole whole s 0 h b h b
 begins script first s whole h b = record { done = []; events = refl; state = refl; last = refl; now = refl; counted = refl; printed = HandsOn-nothing h b }
 
--- where there is no event
-pub skips : (script : Script) (first : ℕ) (s0 : State) (whole rest next : Played) (s : State) (count : ℕ) (h0 : Option (List ℕ)) (b0 : List ℕ) (h : Option (List ℕ)) (b : List ℕ)
-    → rest ≡ next → Going script first s0 whole rest s count h0 b0 h b → Going script first s0 whole next s count h0 b0 h b
-skips script first s0 whole rest next s count h0 b0 h b is going = subst (λ (r : Played). Going script first s0 whole r s count h0 b0 h b) is going
-
 -- an event more
 pub steps : (script : Script) (first : ℕ) (s0 : State) (whole rest more : Played) (s s' : State) (count : ℕ) (e : Event) (h0 : Option (List ℕ)) (b0 : List ℕ) (h : Option (List ℕ)) (b : List ℕ) (h' : Option (List ℕ)) (b' : List ℕ)
     → rest ≡ with_event e more → s' ≡ state_after s e → HandsOn h b (line_of script (entry (first + count) e)) h' b'

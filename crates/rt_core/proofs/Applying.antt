@@ -28,7 +28,7 @@ use Rattle.rt_model.proofs.Named.{within}
 use Rattle.rt_model.proofs.Waiters.{slow-unqueued}
 use Rattle.rt_model.proofs.Lists.{All-default, update-index}
 use Rattle.rt_model.proofs.Lawful.{IsLawful-next}
-use Rattle.rt_core.specs.Core.{Made, state_of}
+use Rattle.rt_core.specs.Core.{Made, with_threads}
 use Rattle.rt_core.specs.Fits.{CanQueue, Fits}
 
 -- ---- what an event finds
@@ -105,9 +105,9 @@ fits s made e lawful few is =
 
 -- ---- the parts of a core, with the value that they make
 
-module _ (sh : Shared) (threads : List ThreadPart) (made : ℕ) (now : Made) (e : Event) (lawful : IsLawful (state_of sh threads) made) (is : record { state = state_of sh threads; made = made } ≡ now)
+module _ (sh : Shared) (threads : List ThreadPart) (made : ℕ) (now : Made) (e : Event) (lawful : IsLawful (with_threads sh threads) made) (is : record { state = with_threads sh threads; made = made } ≡ now)
     (chosen : next_event now.state e.task ≡ Some e) (few : now.made < 2 ^ 62) where
-  chosen_there : next_event (state_of sh threads) e.task ≡ Some e
+  chosen_there : next_event (with_threads sh threads) e.task ≡ Some e
   chosen_there = subst (λ (m : Made). next_event m.state e.task ≡ Some e) (sym is) chosen
 
   few_made : made < 2 ^ 62
@@ -115,33 +115,33 @@ module _ (sh : Shared) (threads : List ThreadPart) (made : ℕ) (now : Made) (e 
 
   -- its task has a thread
   pub thread-there : e.task.0 < length threads
-  thread-there = (within (state_of sh threads) e.task e lawful.shape (next (state_of sh threads) made e lawful chosen_there)).task
+  thread-there = (within (with_threads sh threads) e.task e lawful.shape (next (with_threads sh threads) made e lawful chosen_there)).task
 
-  own_thread : (thread : ThreadPart) → thread ≡ get_or threads e.task.0 thread → thread_part (state_of sh threads) e.task ≡ thread
-  own_thread thread at = thread_part-index (state_of sh threads) e.task thread thread-there at
+  own_thread : (thread : ThreadPart) → thread ≡ get_or threads e.task.0 thread → thread_part (with_threads sh threads) e.task ≡ thread
+  own_thread thread at = thread_part-index (with_threads sh threads) e.task thread thread-there at
 
   -- which it fits
   pub fits_thread : (thread : ThreadPart) → thread ≡ get_or threads e.task.0 thread → Fits e sh thread
-  fits_thread thread at = subst (Fits e sh) (own_thread thread at) (fits (state_of sh threads) made e lawful few_made chosen_there)
+  fits_thread thread at = subst (Fits e sh) (own_thread thread at) (fits (with_threads sh threads) made e lawful few_made chosen_there)
 
   -- the parts that it leaves make the state that it leaves
   left_here : (left : Shared) (thread moved : ThreadPart) → thread ≡ get_or threads e.task.0 thread → left ≡ shared_after sh thread e → moved ≡ thread_after sh thread e
-      → state_of left (slice_set threads e.task.0 moved) ≡ state_after (state_of sh threads) e
+      → with_threads left (slice_set threads e.task.0 moved) ≡ state_after (with_threads sh threads) e
   left_here left thread moved at is_left is_moved =
-      let own = thread_part (state_of sh threads) e.task in
+      let own = thread_part (with_threads sh threads) e.task in
       let all = is_left ∙ ap (λ (th : ThreadPart). shared_after sh th e) (sym (own_thread thread at)) in
       let one = is_moved ∙ ap (λ (th : ThreadPart). thread_after sh th e) (sym (own_thread thread at)) in
-      (λ i. state_of (all i) (slice_set threads e.task.0 (one i)))
-      ∙ ap (state_of (shared_after sh own e)) (sym (update-index threads e.task.0 own (λ old. thread_after sh own e) thread-there))
+      (λ i. with_threads (all i) (slice_set threads e.task.0 (one i)))
+      ∙ ap (with_threads (shared_after sh own e)) (sym (update-index threads e.task.0 own (λ old. thread_after sh own e) thread-there))
 
   pub state_left : (left : Shared) (thread moved : ThreadPart) → thread ≡ get_or threads e.task.0 thread → left ≡ shared_after sh thread e → moved ≡ thread_after sh thread e
-      → state_of left (slice_set threads e.task.0 moved) ≡ state_after now.state e
+      → with_threads left (slice_set threads e.task.0 moved) ≡ state_after now.state e
   state_left left thread moved at is_left is_moved = left_here left thread moved at is_left is_moved ∙ ap (λ (m : Made). state_after m.state e) is
 
   -- which is lawful again
   pub lawful_left : (left : Shared) (thread moved : ThreadPart) → thread ≡ get_or threads e.task.0 thread → left ≡ shared_after sh thread e → moved ≡ thread_after sh thread e
-      → IsLawful (state_of left (slice_set threads e.task.0 moved)) (made + 1)
+      → IsLawful (with_threads left (slice_set threads e.task.0 moved)) (made + 1)
   lawful_left left thread moved at is_left is_moved =
       let one_more : suc made ≡ made + 1 = omega arith in
-      let kept = IsLawful-next (state_of sh threads) made e.task e lawful (next (state_of sh threads) made e lawful chosen_there) in
-      subst (λ (n : ℕ). IsLawful (state_of left (slice_set threads e.task.0 moved)) n) one_more (subst (λ (x : State). IsLawful x (suc made)) (sym (left_here left thread moved at is_left is_moved)) kept)
+      let kept = IsLawful-next (with_threads sh threads) made e.task e lawful (next (with_threads sh threads) made e lawful chosen_there) in
+      subst (λ (n : ℕ). IsLawful (with_threads left (slice_set threads e.task.0 moved)) n) one_more (subst (λ (x : State). IsLawful x (suc made)) (sym (left_here left thread moved at is_left is_moved)) kept)

@@ -16,7 +16,7 @@ use Rattle.rt_events.specs.WellFormed.{IsTaskIn, IsLockIn}
 use Rattle.rt_events.proofs.Short.{task_short, lock_short, dash_short, state_short, spaced_one, two_words, three_words, each_short, line_length}
 use Rattle.rt_core.specs.declared.note.Note.{Note}
 use Rattle.rt_core.specs.declared.note.Note.TheVariants as notes
-use Rattle.rt_core.specs.Report.{bit_word, priority_words, progress_words, note_words, note_key, task_line_of, owner_words, reader_words, row_word, lock_line_of, IsNoteWithin}
+use Rattle.rt_core.specs.Report.{bit_word, priority_words, progress_words, note_words, note_key, task_line_of, owner_words, reader_part_words, row_word, lock_line_of, IsNoteWithin}
 
 -- ---- what is told
 
@@ -112,7 +112,7 @@ owner_short script l lock is there owner =
 reader_part_short : (r : ReaderCell) → r.count < 2 ^ 64 → length (spaced (bit_word r.bias ∷ bit_word r.writer ∷ decimal r.count ∷ [])) ≤ 64
 reader_part_short r count = omega (arith, bit_short r.bias, bit_short r.writer, number_short r.count count, three_words (bit_word r.bias) (bit_word r.writer) (decimal r.count))
 
-readers_short : (kind : Kind) (r : ReaderCell) → r.count < 2 ^ 64 → length (spaced (reader_words kind r)) ≤ 64
+readers_short : (kind : Kind) (r : ReaderCell) → r.count < 2 ^ 64 → length (spaced (reader_part_words kind r)) ≤ 64
 readers_short locks.RwLock r count = reader_part_short r count
 readers_short locks.RwSem r count = reader_part_short r count
 readers_short _ r count = omega arith
@@ -129,7 +129,7 @@ rows_short script rows is all few = omega (arith, each_short (row_word script) (
 pub lock_line_short : (script : Script) (l : LockId) (lock : OwnerPart) (readers : ReaderCell) → IsScript script → IsLockIn script l → IsLockTold script lock readers
     → length (lock_line_of script l lock readers) < 4096
 lock_line_short script l lock readers is there told =
-    joined (codes "lock") (spaced (owner_words script l lock)) (spaced (reader_words (lock_line script l).kind readers)) (spaced (map (row_word script) lock.rows)) (omega arith)
+    joined (codes "lock") (spaced (owner_words script l lock)) (spaced (reader_part_words (lock_line script l).kind readers)) (spaced (map (row_word script) lock.rows)) (omega arith)
     (owner_short script l lock is there told.owner)
     (readers_short (lock_line script l).kind readers told.count)
     (rows_short script lock.rows is told.rows told.few)

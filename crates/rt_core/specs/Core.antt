@@ -8,5 +8,5 @@ pub record Made : Type 0 where
   pub made : ℕ
 
 -- the state of these shared parts and threads
-abbrev pub state_of : Shared → List ThreadPart → State
-state_of sh threads = record { locks = sh.locks; readers = sh.readers; tasks = sh.tasks; threads = threads }
+abbrev pub with_threads : Shared → List ThreadPart → State
+with_threads sh threads = record { locks = sh.locks; readers = sh.readers; tasks = sh.tasks; threads = threads }

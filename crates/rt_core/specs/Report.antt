@@ -87,10 +87,10 @@ bit_word true = codes "1"
 bit_word false = codes "0"
 
 -- bias, write flag and count, at the reader/writer kinds
-abbrev pub reader_words : Kind → ReaderCell → List (List ℕ)
-reader_words RwLock r = bit_word r.bias ∷ bit_word r.writer ∷ decimal r.count ∷ []
-reader_words RwSem r = bit_word r.bias ∷ bit_word r.writer ∷ decimal r.count ∷ []
-reader_words _ r = []
+abbrev pub reader_part_words : Kind → ReaderCell → List (List ℕ)
+reader_part_words RwLock r = bit_word r.bias ∷ bit_word r.writer ∷ decimal r.count ∷ []
+reader_part_words RwSem r = bit_word r.bias ∷ bit_word r.writer ∷ decimal r.count ∷ []
+reader_part_words _ r = []
 
 abbrev pub row_word : Script → Row → List ℕ
 row_word script row = task_word script (record { 0 = row.who }) ++ 58 ∷ decimal row.key
@@ -102,7 +102,7 @@ owner_words script l lock = lock_word script l ∷ task_or_dash script lock.owne
 -- a lock's line: its owner, its readers, and the rows in order
 abbrev pub lock_line_of : Script → LockId → OwnerPart → ReaderCell → List ℕ
 lock_line_of script l lock readers =
-    codes "lock" ++ spaced (owner_words script l lock) ++ spaced (reader_words (lock_line script l).kind readers) ++ spaced (map (row_word script) lock.rows) ++ 10 ∷ []
+    codes "lock" ++ spaced (owner_words script l lock) ++ spaced (reader_part_words (lock_line script l).kind readers) ++ spaced (map (row_word script) lock.rows) ++ 10 ∷ []
 
 abbrev pub lock_report : Script → State → LockId → List ℕ
 lock_report script s l = lock_line_of script l (owner_part s l) (reader_part s l)

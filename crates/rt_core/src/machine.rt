@@ -48,12 +48,12 @@ impl Model for Core {
 
     ghost Value = { Made };
 
-    ghost use Rattle.rt_core.specs.Core.{state_of};
+    ghost use Rattle.rt_core.specs.Core.{with_threads};
     ghost use Rattle.rt_model.specs.laws.Lawful.{IsLawful};
 
-    ghost view = { λ c. record { state = state_of c.shared c.threads.items; made = c.made } };
+    ghost view = { λ c. record { state = with_threads c.shared c.threads.items; made = c.made } };
 
-    ghost invariant = { λ c. IsLawful (state_of c.shared c.threads.items) c.made };
+    ghost invariant = { λ c. IsLawful (with_threads c.shared c.threads.items) c.made };
 }
 
 impl Core {

@@ -2,7 +2,7 @@ ghost use Rattle.std.specs.Prelude.{◌≡◌, ◌+◌, ◌*◌, ◌^◌, ◌<�
 ghost use Rattle.std.specs.Vec.{vec_capacity};
 ghost use Rattle.rt_model.specs.Parts.{effective_of};
 ghost use Rattle.rt_events.specs.Words.{spaced};
-ghost use Rattle.rt_core.specs.Report.{bit_word, priority_words, progress_words, note_words, note_key, task_line_of, owner_words, reader_words, row_word, lock_line_of, IsNoteWithin};
+ghost use Rattle.rt_core.specs.Report.{bit_word, priority_words, progress_words, note_words, note_key, task_line_of, owner_words, reader_part_words, row_word, lock_line_of, IsNoteWithin};
 
 use crate::note::Note;
 use crate::thread::Thread;
@@ -154,7 +154,7 @@ fn push_owner(script: &Script, l: LockId, cell: &LockCell, out: &mut Vec<u8>)
 // Appends the reader part of a reader/writer lock, and nothing for another kind.
 fn push_readers(kind: Kind, readers: ReaderCell, out: &mut Vec<u8>)
     requires room { vec_len out.old + 3 * WORD_ROOM ≤ vec_capacity out.old }
-    ensures text { out.new.items ≡ out.old.items ++ spaced (reader_words kind readers) }
+    ensures text { out.new.items ≡ out.old.items ++ spaced (reader_part_words kind readers) }
     ensures count { readers.count < 2 ^ 32 }
     ensures grows { vec_len out.new ≤ vec_len out.old + 3 * WORD_ROOM }
     ensures capacity { vec_capacity out.old ≤ vec_capacity out.new }

@@ -1,7 +1,7 @@
-ghost use Rattle.std.specs.Prelude.{◌≡◌, ◌<◌, ◌≤◌, length, is_some, IfOk, IfSome};
+ghost use Rattle.std.specs.Prelude.{◌≡◌, ◌<◌, ◌≤◌, length, IfOk, IfSome};
 ghost use Rattle.rt_base.specs.Script.{IsScript};
 ghost use Rattle.rt_model.specs.Stage.{HasOneMutex};
-ghost use Rattle.rt_model.specs.State.{start, shared, lock_in, readers_in, task_in, task_at};
+ghost use Rattle.rt_model.specs.State.{start, shared, lock_in, readers_in, task_in};
 
 mod locks;
 mod tasks;
@@ -84,16 +84,5 @@ impl Shared {
         ensures few { length self.now.tasks ≤ MAX_TASKS }
     {
         &self.tasks[t.0 as usize]
-    }
-
-    /// Whether a task waits for a lock, where one is named.
-    pub fn is_blocked(&self, t: Option<TaskId>) -> bool
-        requires { IfSome t (λ t. t.0 < length self.now.tasks) }
-        ensures { result ≡ is_some (task_at self.now t).blocked }
-    {
-        match t {
-            Some(t) => self.task(t).blocked().is_some(),
-            None => false,
-        }
     }
 }

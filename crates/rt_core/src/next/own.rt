@@ -20,7 +20,7 @@ pub fn own_answer(thread: &Thread, call: &Call) -> Option<Reply>
     let held = thread.is_held(call, lock);
     private_answer(
         *call,
-        kind_of(thread, lock),
+        called_kind(thread, lock),
         spinning,
         held,
         thread.migration(),
@@ -89,7 +89,7 @@ fn if_not_held(held: bool) -> Option<Reply>
 }
 
 // The kind of the lock that a call is about.
-fn kind_of(thread: &Thread, lock: Option<LockId>) -> Option<Kind>
+fn called_kind(thread: &Thread, lock: Option<LockId>) -> Option<Kind>
     requires { IfSome lock (λ l. l.0 < length thread.now.kinds) }
     ensures { result ≡ option_map (kind_of thread.now) lock }
 {

@@ -28,7 +28,7 @@ pub fn slow_event(shared: &Shared, t: TaskId, l: LockId, kind: Kind) -> Event
     }
 }
 
-// Is queued after the better waiters, `task_blocks_on_rt_mutex`.
+// Is queued, `task_blocks_on_rt_mutex`.
 fn wait_event(shared: &Shared, t: TaskId, l: LockId) -> Event
     requires task { t.0 < length shared.now.tasks }
     requires lock { l.0 < length shared.now.locks }

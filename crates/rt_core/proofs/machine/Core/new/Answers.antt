@@ -3,16 +3,16 @@ use Rattle.rt_model.specs.State.{State, start}
 use Rattle.rt_model.specs.laws.Shape.{IsOf}
 use Rattle.rt_model.specs.laws.Lawful.{IsLawful}
 use Rattle.rt_model.proofs.Starts.{IsLawful-start, IsOf-start}
-use Rattle.rt_core.specs.Core.{state_of}
+use Rattle.rt_core.specs.Core.{with_threads}
 use Rattle.rt_core.proofs.machine.Core.new.Goals.{In_ok-threads}
 use Rattle.rt_core.proofs.machine.Core.new.Goals as goal
 
 -- the parts make the script's start state
-begun : (c : In_ok-threads) → state_of c.in_ok-new.field-0 c.in_ok-threads.field-0.items ≡ start c.args.script.now
-begun c = λ i. state_of (c.in_ok-new.ensures.start i) (c.in_ok-threads.ensures i)
+begun : (c : In_ok-threads) → with_threads c.in_ok-new.field-0 c.in_ok-threads.field-0.items ≡ start c.args.script.now
+begun c = λ i. with_threads (c.in_ok-new.ensures.start i) (c.in_ok-threads.ensures i)
 
 -- which is lawful
-lawful : (c : In_ok-threads) → IsLawful (state_of c.in_ok-new.field-0 c.in_ok-threads.field-0.items) 0
+lawful : (c : In_ok-threads) → IsLawful (with_threads c.in_ok-new.field-0 c.in_ok-threads.field-0.items) 0
 lawful c = subst (λ (s : State). IsLawful s 0) (sym (begun c)) (IsLawful-start c.args.script.now c.in_ok-new.ensures.valid c.requires)
 
 pub invariant_of-result : goal.invariant_of-result

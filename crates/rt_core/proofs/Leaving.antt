@@ -1,11 +1,10 @@
 -- What the steps of an event leave of the shared parts.
-use Rattle.std.proofs.Common.{◌≡◌, ◌≢◌, ◌∙◌, ℕ, zero, suc, ◌<◌, List, [], ◌∷◌, length, refl, sym, ap, subst, arith, Option, Some, None, IfSome}
+use Rattle.std.proofs.Common.{◌≡◌, ◌≢◌, ◌∙◌, ℕ, zero, suc, ◌<◌, List, [], ◌∷◌, length, refl, sym, ap, subst, Option, Some, IfSome}
 use Rattle.rt_base.specs.declared.id.LockId.{LockId}
 use Rattle.rt_base.specs.declared.id.TaskId.{TaskId}
 use Rattle.rt_model.specs.declared.event.Event.{Event}
 use Rattle.rt_model.specs.declared.event_kind.EventKind.{EventKind}
 use Rattle.rt_model.specs.declared.event_kind.EventKind.TheVariants as kinds
-use Rattle.rt_model.specs.declared.reader_cell.ReaderCell.{ReaderCell}
 use Rattle.rt_model.specs.Parts.{OwnerPart, TaskPart, ThreadPart}
 use Rattle.rt_model.specs.State.{Shared, free_lock, lock_in}
 use Rattle.rt_model.specs.steps.Task.{refreshed}
@@ -71,10 +70,10 @@ moved-at sh thread e kind l is named = sym (λ i. thread_moved sh thread (record
 
 -- parts that are touched and left as they were
 pub untouched : (sh : Shared) (named : Touched) → sh ≡ record {
-    locks = at_lock sh.locks named.lock (λ lock. lock);
-    readers = at_lock sh.readers named.readers (λ readers. readers);
-    tasks = at_task (at_task (at_task (at_task sh.tasks named.own (λ task. task)) named.owner (λ task. task)) named.other (λ task. task)) named.woken (λ task. task);
-  }
+  locks = at_lock sh.locks named.lock (λ lock. lock);
+  readers = at_lock sh.readers named.readers (λ readers. readers);
+  tasks = at_task (at_task (at_task (at_task sh.tasks named.own (λ task. task)) named.owner (λ task. task)) named.other (λ task. task)) named.woken (λ task. task);
+}
 untouched sh named =
     let each : (xs : List TaskPart) (o : Option TaskId) → at_task xs o (λ task. task) ≡ xs = λ xs o. at_task-none xs o (λ task. task) (λ task. refl) in
     let own = each sh.tasks named.own in

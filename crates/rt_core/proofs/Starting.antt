@@ -1,5 +1,5 @@
 -- The cells that a core begins with fit together.
-use Rattle.std.proofs.Common.{◌≡◌, ◌∙◌, ◌≤◌, ap, sym, subst, refl, replicate, length, ℕ, map, List, All, arith}
+use Rattle.std.proofs.Common.{◌≡◌, ◌∙◌, ◌≤◌, ap, sym, subst, refl, replicate, length, ℕ, map, List, All}
 use Rattle.std.proofs.lemmas.List.{length-map, length-replicate}
 use Rattle.std.proofs.lemmas.List.Elements.{All-replicate}
 use Rattle.rt_base.specs.Script.{TaskLine}
@@ -13,7 +13,6 @@ use Rattle.rt_core.specs.Shared.{IsAmong, IsShared}
 -- a free lock's cell, for so many tasks
 abbrev free_cell : ℕ → OwnerCell
 free_cell tasks = record { part = free_lock; tasks = tasks }
-
 
 pub start-fits : (n : ℕ) (lines : List TaskLine) (cells : List OwnerCell) (readers : List ReaderCell) (tasks : List TaskPart) (r : ReaderCell) → n ≤ 256 → length lines ≤ 64
     → cells ≡ replicate n (free_cell (length lines)) → readers ≡ replicate n r → tasks ≡ map (λ (line : TaskLine). fresh_task n line.own) lines → IsShared cells readers tasks

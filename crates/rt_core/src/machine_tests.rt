@@ -2,8 +2,8 @@ ghost use Rattle.rt_model.specs.laws.Shape.{IsOf};
 
 use crate::{Core, Note};
 use rt_base::{Kind, LockId, Prio, Reply, TaskId, TaskState};
-use rt_model::{Event, EventKind, Reason, Row};
 use rt_locks::LockCell;
+use rt_model::{Event, EventKind, Reason, Row};
 use rt_script::{Script, read_script};
 use std::alloc::Global;
 use std::process::Abort;

@@ -13,6 +13,7 @@ mod release;
 mod wait;
 
 use crate::next::acquire::acquire_event;
+pub use crate::next::event::boost_within;
 use crate::next::own::{own_answer, own_event};
 use crate::next::release::release_event;
 use crate::next::wait::{queued_event, slow_event};
@@ -20,8 +21,6 @@ use crate::shared::Shared;
 use crate::thread::Thread;
 use rt_base::{Call, LockId, TaskId};
 use rt_model::{Event, Phase};
-
-pub use crate::next::event::boost_within;
 
 /// The event of a task with this thread, where it has one.
 pub fn next_of(shared: &Shared, t: TaskId, thread: &Thread) -> Option<Event>

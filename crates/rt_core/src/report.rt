@@ -8,14 +8,14 @@ use crate::note::Note;
 use crate::thread::Thread;
 use rt_base::limits::{MAX_LINE, MAX_PRIO, MAX_TASKS};
 use rt_base::{Kind, LockId, TaskId};
-use rt_locks::LockCell;
-use rt_tasks::TaskCell;
 use rt_events::{
     WORD_ROOM, append, push_byte, push_digits, push_lock, push_number, push_task,
     push_task_or_dash, push_word,
 };
+use rt_locks::LockCell;
 use rt_model::{ReaderCell, Row};
 use rt_script::Script;
+use rt_tasks::TaskCell;
 
 /// Writes a task's line of the report, shorter than `MAX_LINE`.
 pub(crate) fn write_task_line(

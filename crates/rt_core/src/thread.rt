@@ -50,12 +50,7 @@ impl Model for Thread {
 
 impl Thread {
     /// A thread that has made none of its calls and holds nothing, where the locks are of these kinds.
-    pub fn new(
-        alloc: Global,
-        kinds: &[Kind],
-        calls: &[Call],
-        cpu: Cpu,
-    ) -> Result<Thread, NoMemory>
+    pub fn new(alloc: Global, kinds: &[Kind], calls: &[Call], cpu: Cpu) -> Result<Thread, NoMemory>
         requires few { length calls.now ≤ MAX_CALLS }
         requires few_locks { length kinds.now ≤ MAX_LOCKS }
         requires served { All (IsServed (length kinds.now)) calls.now }

@@ -35,8 +35,8 @@ pub fn take(shared: &mut Shared, e: &Event, l: LockId, kind: Kind)
     requires task { e.now.task.0 < length shared.old.tasks }
     requires lock { l.0 < length shared.old.locks }
     ensures { shared.new ≡ record shared.old {
-        locks = update shared.old.locks l.0 (taken_by e.now.task);
-        tasks = update shared.old.tasks e.now.task.0 (taker (Some l) kind (taken_by e.now.task (lock_in shared.old l)));
+      locks = update shared.old.locks l.0 (taken_by e.now.task);
+      tasks = update shared.old.tasks e.now.task.0 (taker (Some l) kind (taken_by e.now.task (lock_in shared.old l)));
     } }
 {
     shared.take(l, e.task);

@@ -23,8 +23,8 @@ pub fn give(shared: &mut Shared, e: &Event, l: LockId, kind: Kind)
     requires lock { l.0 < length shared.old.locks }
     requires woken { IfSome e.now.woken (λ t. t.0 < length shared.old.tasks) }
     ensures { shared.new ≡ record shared.old {
-        locks = update shared.old.locks l.0 given_up;
-        tasks = at_task (update shared.old.tasks e.now.task.0 (with_top (Some l) None)) e.now.woken (lock_woken (spins kind));
+      locks = update shared.old.locks l.0 given_up;
+      tasks = at_task (update shared.old.tasks e.now.task.0 (with_top (Some l) None)) e.now.woken (lock_woken (spins kind));
     } }
 {
     shared.give(l);

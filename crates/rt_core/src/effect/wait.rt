@@ -25,8 +25,8 @@ pub fn wait(shared: &mut Shared, thread: &mut Thread, e: &Event, l: LockId)
     ensures shared { let key = effective_of (task_in shared.old e.now.task) in
         let rest = rest_of (kind_of thread.old l) (call_of thread.old) in
         shared.new ≡ record shared.old {
-            locks = update shared.old.locks l.0 (queued e.now.task key);
-            tasks = at_task (update shared.old.tasks e.now.task.0 (blocked_on (Some l) rest)) e.now.owner (refreshed (Some l) (queued e.now.task key (lock_in shared.old l)).rows);
+          locks = update shared.old.locks l.0 (queued e.now.task key);
+          tasks = at_task (update shared.old.tasks e.now.task.0 (blocked_on (Some l) rest)) e.now.owner (refreshed (Some l) (queued e.now.task key (lock_in shared.old l)).rows);
         } }
     ensures thread { thread.new ≡ record thread.old { phase = phase_after_wait e.now.task (Some l) e.now.owner (is_some (task_at shared.old e.now.owner).blocked) } }
 {

@@ -1,10 +1,9 @@
 -- What an event that comes next finds in the parts of a core, and that a core is left.
-use Rattle.std.proofs.Common.{◌≡◌, ◌∙◌, ℕ, suc, ◌+◌, ◌<◌, ◌^◌, List, length, get_or, refl, sym, ap, subst, arith, All, Option, Some, None, IfSome, IsSome}
+use Rattle.std.proofs.Common.{◌≡◌, ◌∙◌, ℕ, suc, ◌+◌, ◌<◌, ◌^◌, List, length, get_or, refl, sym, ap, subst, arith, Option, Some, None, IfSome, IsSome}
 use Rattle.std.specs.Prelude.{option_map, slice_set}
 use Rattle.rt_base.specs.declared.call.Call.{Call}
 use Rattle.rt_base.specs.declared.call.Call.TheVariants as calls
 use Rattle.rt_base.specs.declared.id.Cpu.{Cpu}
-use Rattle.rt_base.specs.declared.id.LockId.{LockId}
 use Rattle.rt_base.specs.declared.id.TaskId.{TaskId}
 use Rattle.rt_base.specs.declared.reply.Reply.{Reply}
 use Rattle.rt_model.specs.declared.event.Event.{Event}
@@ -12,12 +11,11 @@ use Rattle.rt_model.specs.declared.phase.Phase.{Phase}
 use Rattle.rt_model.specs.declared.row.Row.{Row}
 use Rattle.rt_model.specs.Parts.{ThreadPart, call_of}
 use Rattle.rt_model.specs.Rows.{row_of}
-use Rattle.rt_model.specs.State.{State, Shared, shared, lock_in, lock_at, owner_part, thread_part}
+use Rattle.rt_model.specs.State.{State, Shared, shared, lock_at, owner_part, thread_part}
 use Rattle.rt_model.specs.Stage.{IsServed}
 use Rattle.rt_model.specs.Choice.{called_lock}
 use Rattle.rt_model.specs.NextEvent.{next_event}
-use Rattle.rt_model.specs.StateAfter.{update, shared_after, thread_after, state_after}
-use Rattle.rt_model.specs.laws.Shape.{IsWithin}
+use Rattle.rt_model.specs.StateAfter.{shared_after, thread_after, state_after}
 use Rattle.rt_model.specs.laws.Lawful.{IsLawful}
 use Rattle.rt_model.proofs.Calling.{IsIn, thread_part-index}
 use Rattle.rt_model.proofs.events.Acquire.{is_fast, is_mark, is_take}

@@ -1,11 +1,10 @@
 -- What the steps of an event leave of the shared parts.
-use Rattle.std.proofs.Common.{◌≡◌, ◌≢◌, ◌∙◌, ℕ, zero, suc, ◌<◌, List, [], ◌∷◌, length, refl, sym, ap, subst, arith, Option, Some, None, IfSome}
+use Rattle.std.proofs.Common.{◌≡◌, ◌≢◌, ◌∙◌, ℕ, zero, suc, ◌<◌, List, [], ◌∷◌, length, refl, sym, ap, subst, Option, Some, IfSome}
 use Rattle.rt_base.specs.declared.id.LockId.{LockId}
 use Rattle.rt_base.specs.declared.id.TaskId.{TaskId}
 use Rattle.rt_model.specs.declared.event.Event.{Event}
 use Rattle.rt_model.specs.declared.event_kind.EventKind.{EventKind}
 use Rattle.rt_model.specs.declared.event_kind.EventKind.TheVariants as kinds
-use Rattle.rt_model.specs.declared.reader_cell.ReaderCell.{ReaderCell}
 use Rattle.rt_model.specs.Parts.{OwnerPart, TaskPart, ThreadPart}
 use Rattle.rt_model.specs.State.{Shared, free_lock, lock_in}
 use Rattle.rt_model.specs.steps.Task.{refreshed}

@@ -1,5 +1,5 @@
 -- The owner parts of lock cells.
-use Rattle.std.proofs.Common.{◌≡◌, ◌∙◌, ℕ, zero, suc, ◌<◌, List, [], ◌∷◌, length, refl, ap, arith, get_or, unwrap_or, Option, Some, None}
+use Rattle.std.proofs.Common.{◌≡◌, ◌∙◌, ℕ, zero, suc, ◌<◌, List, [], ◌∷◌, length, refl, ap, arith, get_or, unwrap_or}
 use Rattle.std.specs.Prelude.{slice_get, slice_set}
 use Rattle.rt_model.specs.Parts.{OwnerPart}
 use Rattle.rt_model.specs.StateAfter.{update}

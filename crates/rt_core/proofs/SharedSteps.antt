@@ -7,7 +7,7 @@ use Rattle.rt_model.specs.declared.reader_cell.ReaderCell.{ReaderCell}
 use Rattle.rt_model.specs.Parts.{OwnerPart, TaskPart}
 use Rattle.rt_model.specs.State.{Shared, lock_in, task_in}
 use Rattle.rt_model.specs.StateAfter.{update, at_task}
-use Rattle.rt_model.proofs.Lists.{update-index, at_task-index}
+use Rattle.rt_model.proofs.Lists.{update-index}
 use Rattle.rt_locks.specs.OwnerCell.{OwnerCell}
 use Rattle.rt_core.specs.Shared.{parts_of}
 use Rattle.rt_core.proofs.OwnerParts.{length-parts, parts-at, parts-set}

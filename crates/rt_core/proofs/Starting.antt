@@ -1,5 +1,5 @@
 -- The cells that a core begins with fit together.
-use Rattle.std.proofs.Common.{◌≡◌, ◌∙◌, ◌≤◌, ap, sym, subst, refl, replicate, length, ℕ, map, List, All, arith}
+use Rattle.std.proofs.Common.{◌≡◌, ◌∙◌, ◌≤◌, ap, sym, subst, refl, replicate, length, ℕ, map, List, All}
 use Rattle.std.proofs.lemmas.List.{length-map, length-replicate}
 use Rattle.std.proofs.lemmas.List.Elements.{All-replicate}
 use Rattle.rt_base.specs.Script.{TaskLine}

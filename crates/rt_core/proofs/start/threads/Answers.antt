@@ -1,4 +1,4 @@
-use Rattle.std.proofs.Common.{◌≡◌, ◌<◌, ◌≤◌, ◌∙◌, sym, ap, subst, ℕ, length, List, All, arith}
+use Rattle.std.proofs.Common.{◌<◌, ◌≤◌, ◌∙◌, sym, ap, subst, ℕ, length, List, All, arith}
 use Rattle.std.proofs.lemmas.List.{length-map}
 use Rattle.rt_base.specs.Script.{TaskLine, LockLine, task_line, all_calls}
 use Rattle.rt_base.specs.declared.call.Call.{Call}

@@ -1,4 +1,4 @@
-use Rattle.std.proofs.Common.{◌≡◌, ◌∙◌, ap, List, Some}
+use Rattle.std.proofs.Common.{◌∙◌, ap, List, Some}
 use Rattle.rt_model.specs.Parts.{TaskPart}
 use Rattle.rt_model.specs.State.{lock_in}
 use Rattle.rt_model.specs.StateAfter.{update}

@@ -1,4 +1,4 @@
-use Rattle.std.proofs.Common.{◌≡◌, ◌∙◌, ap, Some}
+use Rattle.std.proofs.Common.{◌∙◌, ap, Some}
 use Rattle.rt_base.specs.declared.state.TaskState.{TaskState}
 use Rattle.rt_model.specs.Parts.{effective_of}
 use Rattle.rt_model.specs.State.{lock_in, task_in}

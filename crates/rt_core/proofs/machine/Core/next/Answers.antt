@@ -2,7 +2,7 @@ use Rattle.std.proofs.Common.{◌≡◌, ◌<◌, ◌≤◌, ◌^◌, ◌∙◌,
 use Rattle.rt_base.specs.Script.{Script}
 use Rattle.rt_base.specs.declared.id.TaskId.{TaskId}
 use Rattle.rt_model.specs.declared.event.Event.{Event}
-use Rattle.rt_model.specs.State.{State, shared, task_part, thread_part}
+use Rattle.rt_model.specs.State.{State, shared}
 use Rattle.rt_model.specs.NextEvent.{next_of, next_event}
 use Rattle.rt_model.specs.laws.Shape.{IsOf, IsWithin}
 use Rattle.rt_model.specs.laws.Lawful.{IsLawful}

@@ -1,5 +1,5 @@
 use Rattle.std.proofs.Common.{◌≡◌, ◌∙◌, ◌<◌, ◌^◌, ap, sym, subst, None}
-use Rattle.rt_model.specs.Parts.{OwnerPart, TaskPart, effective_of}
+use Rattle.rt_model.specs.Parts.{OwnerPart, effective_of}
 use Rattle.rt_model.specs.Rows.{row_of}
 use Rattle.rt_model.specs.State.{lock_in, task_in}
 use Rattle.rt_model.specs.steps.Lock.{queued}

@@ -1,4 +1,4 @@
-use Rattle.std.proofs.Common.{◌∙◌, ap, replicate, length, arith}
+use Rattle.std.proofs.Common.{◌∙◌, ap, replicate, length}
 use Rattle.rt_model.specs.State.{free_lock, no_readers}
 use Rattle.rt_core.proofs.Starting.{start-fits}
 use Rattle.rt_core.proofs.shared.Shared.new.Goals as goal

@@ -1,4 +1,4 @@
--- Queues: rows that come to their place and go, each of another task.
+-- Queues as rows come and go: each row is of another task, so there is room for one more.
 use Rattle.std.specs.Prelude.{IsSome, Option}
 use Rattle.std.proofs.lemmas.List.Kept.{AllPairs-filter}
 use Rattle.std.proofs.Common.{◌≡◌, ◌≢◌, All, ℕ, ◌<◌, ◌≤◌, Bool, true, false, cond, eqb, not, List, [], ◌∷◌, length, map, suc, sym, ap, subst, ◌∙◌, Some, None, refl, ⊎_elim, arith}
@@ -9,56 +9,48 @@ use Rattle.std.proofs.lemmas.Map.Steps.{length-le_from_distinct_below}
 use Rattle.rt_base.specs.declared.id.TaskId.{TaskId}
 use Rattle.rt_model.specs.declared.row.Row.{Row}
 use Rattle.rt_model.specs.Rows.{task_of, is_of, row_of, goes_before, insert_row, without}
-use Rattle.rt_model.proofs.Numbers.{at_each_task}
-use Rattle.rt_model.proofs.Queues.{row_of-insert_other, row_of-without, row_of-without_other}
-use Rattle.rt_model.proofs.Numbers.{other_number, same_number}
-use Rattle.rt_model.proofs.Queues.{IsApart, insert_order}
 use Rattle.rt_model.specs.laws.Rows.{IsAhead}
+use Rattle.rt_model.proofs.Numbers.{at_each_task, same_number, other_number}
+use Rattle.rt_model.proofs.Queues.{IsApart, insert_order, row_of-insert_other, row_of-without, row_of-without_other}
 use Rattle.rt_waiters.specs.Queue.{AreQueued, IsQueued}
 
 -- ---- each row is of another task
 
--- whose row is first
-pub row_of-here : (t : TaskId) (row : Row) (rows : List Row) → is_of t row ≡ true → row_of t (row ∷ rows) ≡ Some row
-row_of-here t row rows is = ap (λ (b : Bool). cond b (Some row) (row_of t rows)) is
-
-pub row_of-behind : (t : TaskId) (row : Row) (rows : List Row) → is_of t row ≡ false → row_of t (row ∷ rows) ≡ row_of t rows
-row_of-behind t row rows is = ap (λ (b : Bool). cond b (Some row) (row_of t rows)) is
+-- a row of another task is passed over
+row_of-after : (t : TaskId) (row : Row) (rows : List Row) → is_of t row ≡ false → row_of t (row ∷ rows) ≡ row_of t rows
+row_of-after t row rows is = ap (λ (b : Bool). cond b (Some row) (row_of t rows)) is
 
 -- a task without row is none of those of the rows
-pub absent-head : (t : TaskId) (row : Row) (rows : List Row) → row_of t (row ∷ rows) ≡ None → is_of t row ≡ false
+absent-head : (t : TaskId) (row : Row) (rows : List Row) → row_of t (row ∷ rows) ≡ None → is_of t row ≡ false
 absent-head t row rows none = cases_bool (is_of t row) refl none
   where
     cases_bool : (b : Bool) → b ≡ is_of t row → cond b (Some row) (row_of t rows) ≡ None → b ≡ false
     cases_bool true is gone = cc
     cases_bool false is gone = refl
 
-pub absent-tail : (t : TaskId) (row : Row) (rows : List Row) → row_of t (row ∷ rows) ≡ None → row_of t rows ≡ None
-absent-tail t row rows none = sym (row_of-behind t row rows (absent-head t row rows none)) ∙ none
-
-pub absent-cons : (t : TaskId) (row : Row) (rows : List Row) → is_of t row ≡ false → row_of t rows ≡ None → row_of t (row ∷ rows) ≡ None
-absent-cons t row rows is none = row_of-behind t row rows is ∙ none
+absent-tail : (t : TaskId) (row : Row) (rows : List Row) → row_of t (row ∷ rows) ≡ None → row_of t rows ≡ None
+absent-tail t row rows none = sym (row_of-after t row rows (absent-head t row rows none)) ∙ none
 
 -- and stays without row when another's comes, or one goes
-pub absent-insert : (t : TaskId) (row : Row) (rows : List Row) → is_of t row ≡ false → row_of t rows ≡ None → row_of t (insert_row row rows) ≡ None
+absent-insert : (t : TaskId) (row : Row) (rows : List Row) → is_of t row ≡ false → row_of t rows ≡ None → row_of t (insert_row row rows) ≡ None
 absent-insert t row rows is none = row_of-insert_other t row rows is ∙ none
 
-pub absent-without : (t u : TaskId) (rows : List Row) → row_of t rows ≡ None → row_of t (without u rows) ≡ None
+absent-without : (t u : TaskId) (rows : List Row) → row_of t rows ≡ None → row_of t (without u rows) ≡ None
 absent-without t u rows none =
     at_each_task (λ v. row_of v rows ≡ None → row_of v (without u rows) ≡ None) u t (λ gone. row_of-without u rows) (λ other gone. row_of-without_other u t rows other ∙ gone) none
 
-pub eqb-flip : (m n : ℕ) → eqb m n ≡ false → eqb n m ≡ false
+eqb-flip : (m n : ℕ) → eqb m n ≡ false → eqb n m ≡ false
 eqb-flip m n is = ne_eqb n m (λ same. eqb-false m n is (sym same))
 
--- rows stay of different tasks
-pub AreQueued-insert : (room : ℕ) (row : Row) (rows : List Row) → row.who < room → row_of (record { 0 = row.who }) rows ≡ None → AreQueued room rows → AreQueued room (insert_row row rows)
+-- rows stay of different tasks when one comes, and when one goes
+AreQueued-insert : (room : ℕ) (row : Row) (rows : List Row) → row.who < room → row_of (record { 0 = row.who }) rows ≡ None → AreQueued room rows → AreQueued room (insert_row row rows)
 AreQueued-insert room row [] lt none all = (lt, none, tt)
 AreQueued-insert room row (other ∷ rows) lt none all =
     cond_both (goes_before row other) (row ∷ other ∷ rows) (other ∷ insert_row row rows) (AreQueued room)
     (λ _. (lt, none, all))
     (λ _. (all.0, absent-insert (record { 0 = other.who }) row rows (eqb-flip other.who row.who (absent-head (record { 0 = row.who }) other rows none)) all.1, AreQueued-insert room row rows lt (absent-tail (record { 0 = row.who }) other rows none) all.2))
 
-pub AreQueued-without : (room : ℕ) (u : TaskId) (rows : List Row) → AreQueued room rows → AreQueued room (without u rows)
+AreQueued-without : (room : ℕ) (u : TaskId) (rows : List Row) → AreQueued room rows → AreQueued room (without u rows)
 AreQueued-without room u [] all = all
 AreQueued-without room u (row ∷ rows) all =
     cond_both (not (is_of u row)) (row ∷ without u rows) (without u rows) (AreQueued room)
@@ -67,19 +59,19 @@ AreQueued-without room u (row ∷ rows) all =
 
 -- ---- so there is room for one more
 
-abbrev pub whos : List Row → List ℕ
+abbrev whos : List Row → List ℕ
 whos rows = map (λ (row : Row). row.who) rows
 
-pub whos-apart : (t : TaskId) (rows : List Row) → row_of t rows ≡ None → AllByRecursion (λ (who : ℕ). eqb t.0 who ≡ false) (whos rows)
+whos-apart : (t : TaskId) (rows : List Row) → row_of t rows ≡ None → AllByRecursion (λ (who : ℕ). eqb t.0 who ≡ false) (whos rows)
 whos-apart t [] none = tt
 whos-apart t (row ∷ rows) none = (eqb-flip row.who t.0 (absent-head t row rows none), whos-apart t rows (absent-tail t row rows none))
 
-pub whos-distinct : (room : ℕ) (rows : List Row) → AreQueued room rows → IsDistinct eqb (whos rows)
+whos-distinct : (room : ℕ) (rows : List Row) → AreQueued room rows → IsDistinct eqb (whos rows)
 unfolding IsDistinct
 whos-distinct room [] all = tt
 whos-distinct room (row ∷ rows) all = (whos-apart (record { 0 = row.who }) rows all.1, whos-distinct room rows all.2)
 
-pub whos-below : (room : ℕ) (rows : List Row) → AreQueued room rows → (q : ℕ) → list_any (eqb q) (whos rows) ≡ true → q < room
+whos-below : (room : ℕ) (rows : List Row) → AreQueued room rows → (q : ℕ) → list_any (eqb q) (whos rows) ≡ true → q < room
 whos-below room [] all q is = absurd (true≢false (sym is))
 whos-below room (row ∷ rows) all q is =
     ⊎_elim (λ (here : eqb q row.who ≡ true). let same = eqb-true q row.who here in let lt = all.0 in omega arith)
@@ -110,7 +102,7 @@ room_for room who rows lt none all =
     omega arith
 
 -- a row of a task that isn't queued, with a ticket that no row has, is apart from all
-pub apart_from : (row : Row) (rows : List Row) → row_of (record { 0 = row.who }) rows ≡ None → All (λ (r : Row). r.ticket ≢ row.ticket) rows → All (IsApart row) rows
+apart_from : (row : Row) (rows : List Row) → row_of (record { 0 = row.who }) rows ≡ None → All (λ (r : Row). r.ticket ≢ row.ticket) rows → All (IsApart row) rows
 apart_from row [] none fresh = All-nil (IsApart row)
 apart_from row (other ∷ rows) none fresh =
     let here : is_of (record { 0 = row.who }) other ≡ false = absent-head (record { 0 = row.who }) other rows none in

@@ -2,6 +2,7 @@ pub mod Prefixes
 pub mod PrefixesAll
 pub mod OwnerParts
 pub mod SharedSteps
+pub mod Holds
 pub mod Starting
 pub mod Leaving
 pub mod Applying

@@ -13,7 +13,7 @@ use Rattle.rt_core.specs.Shared.{parts_of}
 use Rattle.rt_core.proofs.OwnerParts.{length-parts, parts-at, parts-set}
 
 -- the element at a place, whatever stands for one that is missing
-read-index : {X : Type 0} (xs : List X) (i : ℕ) (x d : X) → i < length xs → unwrap_or (slice_get xs i) d ≡ get_or xs i x
+pub read-index : {X : Type 0} (xs : List X) (i : ℕ) (x d : X) → i < length xs → unwrap_or (slice_get xs i) d ≡ get_or xs i x
 read-index [] i x d lt = absurd (omega arith)
 read-index (y ∷ xs) zero x d lt = refl
 read-index (y ∷ xs) (suc i) x d lt = read-index xs i x d (omega arith)

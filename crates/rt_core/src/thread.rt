@@ -3,7 +3,7 @@ ghost use Rattle.rt_model.specs.Parts.{call_of, kind_of};
 ghost use Rattle.rt_model.specs.State.{fresh_thread};
 ghost use Rattle.rt_model.specs.Stage.{IsServed};
 ghost use Rattle.rt_model.specs.Choice.{called_lock};
-ghost use Rattle.rt_model.specs.events.Own.{is_held};
+ghost use Rattle.rt_model.specs.events.Own.{is_held, spinning_hold, spinning_holds};
 ghost use Rattle.rt_model.specs.steps.Task.{rest_of, sleep_of};
 ghost use Rattle.rt_model.specs.steps.Thread.{answered_with, holds_after, with_hold};
 ghost use Rattle.rt_model.specs.Run.{is_at_end};
@@ -22,7 +22,7 @@ const NOTHING: Hold = Hold {
 };
 
 /// A thread's private part: what it knows of the script, which are the kinds of all locks and its own
-/// calls, how far it has come, and what it holds.
+/// calls, how far it has come, and what it holds, with how many locks of a spinning kind that is of.
 #[derive(Drop)]
 pub struct Thread {
     kinds: Vec<Kind>,
@@ -30,6 +30,7 @@ pub struct Thread {
     answered: u32,
     phase: Phase,
     holds: Vec<Hold>,
+    spinning: u32,
     migration: u32,
     cpu: Cpu,
 }
@@ -45,7 +46,7 @@ impl Model for Thread {
     ghost use Rattle.std.specs.Prelude.{◌≤◌, length};
     ghost use Rattle.rt_core.specs.Thread.{IsPrivate};
 
-    ghost invariant = { λ t. IsPrivate t.kinds.items t.calls.items t.answered t.holds.items };
+    ghost invariant = { λ t. IsPrivate t.kinds.items t.calls.items t.answered t.holds.items t.spinning };
 }
 
 impl Thread {
@@ -63,6 +64,7 @@ impl Thread {
             answered: 0,
             phase: Phase::Start,
             holds,
+            spinning: 0,
             migration: 0,
             cpu,
         })
@@ -118,15 +120,6 @@ impl Thread {
         self.migration
     }
 
-    /// The kinds of all locks, as it knows them.
-    pub fn kinds(&self) -> &[Kind]
-        ensures kinds { result.now ≡ self.now.kinds }
-        ensures few { length result.now ≤ MAX_LOCKS }
-        ensures holds { length self.now.holds ≡ length self.now.kinds }
-    {
-        self.kinds.as_slice()
-    }
-
     /// The kind of a lock.
     pub fn kind_of(&self, l: LockId) -> Kind
         requires { l.0 < length self.now.kinds }
@@ -135,11 +128,11 @@ impl Thread {
         self.kinds[l.0 as usize]
     }
 
-    /// What it holds of each lock.
-    pub fn holds(&self) -> &[Hold]
-        ensures { result.now ≡ self.now.holds }
+    /// How many locks of a spinning kind it holds.
+    pub fn spinning_holds(&self) -> u32
+        ensures { result ≡ spinning_holds self.now.kinds self.now.holds }
     {
-        self.holds.as_slice()
+        self.spinning
     }
 
     /// The lock that a call is about.
@@ -217,7 +210,12 @@ impl Thread {
         requires { l.0 < length self.old.kinds }
         ensures { self.new ≡ record self.old { holds = with_hold self.old l owns } }
     {
-        self.holds[l.0 as usize].owns = owns;
+        let kind = self.kinds[l.0 as usize];
+        let before = self.holds[l.0 as usize];
+        let after = Hold { owns, ..before };
+        self.spinning -= spinning_hold(kind, &before);
+        self.spinning += spinning_hold(kind, &after);
+        self.holds[l.0 as usize] = after;
     }
 }
 
@@ -229,4 +227,12 @@ fn sleep_of(call: Option<Call>) -> TaskState
         Some(Call::LockInt(_)) => TaskState::Interruptible,
         _ => TaskState::Uninterruptible,
     }
+}
+
+// One where something is held of a lock of a spinning kind.
+fn spinning_hold(kind: Kind, hold: &Hold) -> u32
+    ensures { result ≡ spinning_hold kind hold.now }
+{
+    let held = hold.owns || hold.reads > 0;
+    if kind.spins() && held { 1 } else { 0 }
 }

@@ -2,13 +2,12 @@
 ghost use Rattle.std.specs.Prelude.{◌≡◌, ◌≤◌, ◌<◌, length, Some, IfSome, option_map};
 ghost use Rattle.rt_model.specs.Parts.{kind_of};
 ghost use Rattle.rt_model.specs.Stage.{IsServed};
-ghost use Rattle.rt_model.specs.events.Own.{if_held, if_not_held, private_answer, spinning_hold, spinning_holds, own_answer, own_event};
+ghost use Rattle.rt_model.specs.events.Own.{if_held, if_not_held, private_answer, own_answer, own_event};
 
 use crate::next::event::bare;
 use crate::thread::Thread;
-use rt_base::limits::MAX_LOCKS;
 use rt_base::{Call, Kind, LockId, Reply, TaskId};
-use rt_model::{Event, EventKind, Hold};
+use rt_model::{Event, EventKind};
 
 /// The answer that a thread gives a call at once, where it does.
 pub fn own_answer(thread: &Thread, call: &Call) -> Option<Reply>
@@ -16,12 +15,11 @@ pub fn own_answer(thread: &Thread, call: &Call) -> Option<Reply>
     ensures { result ≡ own_answer thread.now call.now }
 {
     let lock = thread.called_lock(call);
-    let spinning = spinning_holds(thread.kinds(), thread.holds());
     let held = thread.is_held(call, lock);
     private_answer(
         *call,
         called_kind(thread, lock),
-        spinning,
+        thread.spinning_holds(),
         held,
         thread.migration(),
     )
@@ -97,25 +95,4 @@ fn called_kind(thread: &Thread, lock: Option<LockId>) -> Option<Kind>
         Some(l) => Some(thread.kind_of(l)),
         None => None,
     }
-}
-
-// One where something is held of a lock of a spinning kind.
-fn spinning_hold(kind: Kind, hold: &Hold) -> u32
-    ensures { result ≡ spinning_hold kind hold.now }
-{
-    let held = hold.owns || hold.reads > 0;
-    if kind.spins() && held { 1 } else { 0 }
-}
-
-// How many locks of a spinning kind these holds are of.
-fn spinning_holds(kinds: &[Kind], holds: &[Hold]) -> u32
-    requires same { length holds.now ≡ length kinds.now }
-    requires few { length kinds.now ≤ MAX_LOCKS }
-    ensures { result ≡ spinning_holds kinds.now holds.now }
-{
-    let mut count = 0;
-    for (i, kind) in kinds.iter().enumerate() {
-        count += spinning_hold(*kind, &holds[i]);
-    }
-    count
 }

@@ -95,40 +95,6 @@ fn may_take(rt: &impl Abort, lock: &LockCell) -> Result<(), Fail> {
     Ok(())
 }
 
-// A task as good as the top waiter takes the lock where it spins and the priority is normal.
-#[test]
-fn equal_normal_task_takes_a_spinning_lock(rt: HostRuntime) -> Result<(), Fail> {
-    for (number, kind, reason) in [
-        (99, Kind::Spin, None),
-        (100, Kind::Spin, Some(Reason::Equal)),
-        (100, Kind::Mutex, None),
-    ] {
-        let lock = LockCell::new(rt.alloc(), 3)?;
-        equal_asks::<Brand>(&rt, lock, Blank::new(1), prio(number)?, kind, reason);
-    }
-    Ok(())
-}
-
-// B waits, and A asks with the same priority.
-fn equal_asks<L: Ledger>(
-    rt: &impl Abort,
-    lock: LockCell,
-    blank: Blank,
-    key: Prio,
-    kind: Kind,
-    reason: Option<Reason>,
-)
-    requires name { blank.name ≡ L.name }
-    requires parts { blank.parts ≡ L.parts }
-    requires some { 0 < L.parts }
-    requires lock { lock ≡ record { part = free_lock; tasks = 3 } }
-{
-    let mut steps = Steps::<L>::new(blank);
-    let mut lock = lock;
-    let _ = lock.enqueue(B, key, &mut steps);
-    assert_eq!(rt; lock.may_take(A, key, kind), reason);
-}
-
 fn row(key: u64, ticket: u64, who: u32) -> Row {
     Row { key, ticket, who }
 }

@@ -1,5 +1,6 @@
 use super::*;
 use rt_base::Reply::{Deadlock, Done, Got, Interrupted, Missed, Nesting, NotOwner, Pinned, Woke};
+use rt_base::limits::LINE_LIMIT;
 use rt_base::{Ended, LockId, Path, Prio, Reply, TaskId};
 use rt_model::EventKind::*;
 use rt_script::{Script, read_script};

@@ -1,9 +1,8 @@
 ghost use Rattle.rt_model.specs.laws.Shape.{IsOf};
 
 use crate::{Core, Note};
-use rt_base::{Kind, LockId, Prio, Reply, TaskId, TaskState};
-use rt_locks::LockCell;
-use rt_model::{Event, EventKind, Reason, Row};
+use rt_base::{LockId, Prio, Reply, TaskId, TaskState};
+use rt_model::{Event, EventKind};
 use rt_script::{Script, read_script};
 use std::alloc::Global;
 use std::process::Abort;
@@ -80,8 +79,6 @@ fn a_waiter_is_given_the_lock(rt: HostRuntime) -> Result<(), Fail> {
     let give = (EventKind::Give, Some(B), Some((A, 50)), Some(Reply::Done));
     makes(&rt, &script, &mut core, 3, A, give)?;
     b_is_woken(&rt, &core);
-    assert_eq!(rt; script.locks(), 1);
-    b_may_take(&rt, core.lock(LOCK))?;
     makes(&rt, &script, &mut core, 4, B, TAKE)?;
     makes(&rt, &script, &mut core, 5, B, FREE)?;
     let lines = [
@@ -107,8 +104,6 @@ fn two_wait_and_nobody_gets_on(rt: HostRuntime) -> Result<(), Fail> {
     let wait = (EventKind::Wait, None, Some((A, 10)), None);
     makes(&rt, &script, &mut core, 4, C, wait)?;
     is_stuck(&rt, &core);
-    assert_eq!(rt; script.locks(), 1);
-    c_is_first(&rt, core.lock(LOCK));
     let lines = [
         "task a 50 10 R R 1/1 end\n",
         "task b 20 20 D R 0/1 lock m 20\n",
@@ -171,9 +166,7 @@ fn b_waits(rt: &impl Abort, core: &Core) -> Result<(), Fail> {
     assert!(rt; core.tasks() == 2);
     assert_eq!(rt; core.note(B), Note::Lock(LOCK, prio(20)?));
     assert_eq!(rt; core.effective(A).get(), 20);
-    assert_eq!(rt; core.cell(A).effective_with(LOCK, None).get(), 50);
     assert_eq!(rt; core.cell(B).blocked_at(), Some((LOCK, prio(20)?)));
-    assert_eq!(rt; core.cell(B).blocked(), Some(LOCK));
     assert_eq!(rt; core.cell(B).state(), TaskState::Uninterruptible);
     assert_eq!(rt; core.lowest_enabled(), Some(A));
     Ok(())
@@ -185,25 +178,7 @@ fn b_is_woken(rt: &impl Abort, core: &Core) {
     assert_eq!(rt; core.note(A), Note::End);
     assert_eq!(rt; core.effective(A).get(), 50);
     assert_eq!(rt; core.cell(B).state(), TaskState::Running);
-    assert_eq!(rt; core.cell(B).saved(), TaskState::Running);
-    assert!(rt; !core.cell(B).signalled());
     assert_eq!(rt; core.lowest_enabled(), Some(B));
-}
-
-// A lock without owner goes to its top waiter, and to a better task.
-fn b_may_take(rt: &impl Abort, lock: &LockCell) -> Result<(), Fail> {
-    let (better, key, worse) = (prio(19)?, prio(20)?, prio(21)?);
-    assert_eq!(rt; lock.owner(), None);
-    assert_eq!(rt; lock.may_take(B, key, Kind::Mutex), Some(Reason::Top));
-    assert_eq!(rt; lock.may_take(A, better, Kind::Mutex), Some(Reason::Better));
-    assert_eq!(rt; lock.may_take(A, key, Kind::Mutex), None);
-    assert_eq!(rt; (lock.key_of(A), lock.key_of(B)), (None, Some(key)));
-    assert_eq!(rt; lock.top_key(), Some(key));
-    assert_eq!(rt; lock.top_key_without(A), Some(key));
-    assert_eq!(rt; lock.top_key_without(B), None);
-    assert_eq!(rt; lock.top_key_with(A, better), better);
-    assert_eq!(rt; lock.top_key_with(A, worse), key);
-    Ok(())
 }
 
 // Two wait for a task that has no more calls.
@@ -216,28 +191,6 @@ fn is_stuck(rt: &impl Abort, core: &Core) {
         assert_eq!(rt; core.next(t), None);
         assert_eq!(rt; core.effective(t).get(), if t == B { 20 } else { 10 });
     }
-}
-
-// The one that came last goes first.
-fn c_is_first(rt: &impl Abort, lock: &LockCell) {
-    let first = Row {
-        key: 10,
-        ticket: 1,
-        who: 2,
-    };
-    let second = Row {
-        key: 20,
-        ticket: 0,
-        who: 1,
-    };
-    let waiters = lock.waiters();
-    assert_eq!(rt; waiters.rows(), [first, second].as_slice());
-    assert_eq!(rt; waiters.row(1), Some(second));
-    assert_eq!(rt; (waiters.top(), lock.top()), (Some(first), Some(first)));
-    assert_eq!(rt; lock.top_task(), Some(C));
-    assert_eq!(rt; lock.next_ticket(), 2);
-    assert_eq!(rt; lock.owner(), Some(A));
-    assert!(rt; lock.bit());
 }
 
 // Compares the lines of the report.

@@ -1,7 +1,7 @@
-use Rattle.std.proofs.Common.{◌≡◌, ◌∙◌, ◌<◌, ◌≤◌, ◌+◌, ◌-◌, ℕ, length, length-set, sym, ap, subst, arith}
+use Rattle.std.proofs.Common.{◌≡◌, ◌∙◌, ◌<◌, ◌≤◌, ◌+◌, ◌-◌, ℕ, length, length-set, sym, subst, arith}
 use Rattle.std.specs.Prelude.{slice_set}
 use Rattle.rt_model.specs.Parts.{ThreadPart}
-use Rattle.rt_model.specs.events.Own.{spinning_hold, spinning_holds}
+use Rattle.rt_model.specs.events.Own.{spinning_holds}
 use Rattle.rt_core.proofs.Holds.{hold-set, spinning-least, spinning-most, spinning-set}
 use Rattle.rt_core.proofs.thread.Thread.set_owns.Goals.{After-spinning_hold, After-spinning_hold-2}
 use Rattle.rt_core.proofs.thread.Thread.set_owns.Goals as goal

@@ -16,6 +16,11 @@ bare t kind = record { task = t; kind = kind; lock = None; other = None; owner =
 abbrev pub boost_of : TaskId → ℕ → ℕ → Option (TaskId × ℕ)
 boost_of t before after = if nat_eq before after then None else Some (t, after)
 
+-- the same of a task that may not be named
+abbrev pub boost_at : Option TaskId → ℕ → ℕ → Option (TaskId × ℕ)
+boost_at None before after = None
+boost_at (Some t) before after = boost_of t before after
+
 -- the lock that a call is about; of a local lock the cell of the processor
 abbrev pub called_lock : Cpu → Call → Option LockId
 called_lock cpu (calls.Lock l) = Some l

@@ -11,31 +11,36 @@ use Rattle.rt_model.specs.declared.phase.Phase.TheVariants as phases
 use Rattle.rt_model.specs.Parts.{ThreadPart, kind_of, call_of}
 use Rattle.rt_model.specs.State.{State, Shared, shared, lock_in, task_in, task_at, thread_part}
 use Rattle.rt_model.specs.Choice.{called_lock}
-use Rattle.rt_model.specs.events.Acquire.{acquire_event}
+use Rattle.rt_model.specs.events.Acquire.{acquire_event, try_event}
 use Rattle.rt_model.specs.events.Wait.{slow_event, queued_event}
 use Rattle.rt_model.specs.events.Release.{release_event}
+use Rattle.rt_model.specs.events.Walk.{cursor_event}
+use Rattle.rt_model.specs.events.Wakeups.{setprio_event}
 use Rattle.rt_model.specs.events.Own.{own_answer, own_event}
 
--- a call's first event, where it isn't answered by the thread alone; so far for the calls of a mutex that don't try
-abbrev pub first_event : Shared → TaskId → Call → Option Event
-first_event sh t (calls.Lock l) = Some (acquire_event t l (lock_in sh l))
-first_event sh t (calls.Unlock l) = Some (release_event t l (lock_in sh l) (task_in sh t))
-first_event sh t _ = None
+-- a call's first event, where it isn't answered by the thread alone; so far for the calls that are played
+abbrev pub first_event : Shared → TaskId → ThreadPart → Call → Option Event
+first_event sh t thread (calls.Lock l) = Some (acquire_event t l (lock_in sh l))
+first_event sh t thread (calls.TryLock l) = Some (try_event t l (kind_of thread l) (lock_in sh l) (task_in sh t))
+first_event sh t thread (calls.Unlock l) = Some (release_event t l (lock_in sh l) (task_in sh t))
+first_event sh t thread (calls.SetPrio u prio) = Some (setprio_event t u prio (task_in sh u))
+first_event sh t thread _ = None
 
 -- an answer that the thread's own part gives goes before the call's first event
 abbrev pub answered_or : Option Event → TaskId → Option LockId → Option Reply → Option Event
 answered_or event t lock (Some answer) = Some (own_event t lock answer)
 answered_or event t lock None = event
 
--- the event of a call on a lock that isn't in its first phase
+-- the event of a call that isn't in its first phase
 abbrev pub later_event : Phase → Shared → TaskId → ThreadPart → Option LockId → Option Event
 later_event phases.Slow sh t thread (Some l) = Some (slow_event t l (kind_of thread l) (lock_in sh l) (task_in sh t) (task_at sh (lock_in sh l).owner))
 later_event phases.Wait sh t thread (Some l) = queued_event t l (kind_of thread l) (lock_in sh l) (task_in sh t) (task_in sh t).state
+later_event (phases.Walk u route) sh t thread lock = Some (cursor_event sh t route u (task_in sh u) (task_in sh u).blocked)
 later_event _ sh t thread lock = None
 
 -- the event of a call in a phase
 abbrev pub event_in : Phase → Shared → TaskId → ThreadPart → Call → Option Event
-event_in phases.Start sh t thread call = answered_or (first_event sh t call) t (called_lock thread.cpu call) (own_answer thread call)
+event_in phases.Start sh t thread call = answered_or (first_event sh t thread call) t (called_lock thread.cpu call) (own_answer thread call)
 event_in phase sh t thread call = later_event phase sh t thread (called_lock thread.cpu call)
 
 -- the event of the call that a thread is at

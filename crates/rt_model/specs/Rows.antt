@@ -1,5 +1,5 @@
 -- The queue of a lock: who is its top waiter, who may take it, and rows that come and go.
-use Rattle.std.specs.Prelude.{ℕ, Bool, ◌&&◌, ◌||◌, not, List, [], ◌∷◌, filter, find, Option, Some, None, option_map, unwrap_or, is_some, nat_eq, nat_lt, if◌then◌else◌}
+use Rattle.std.specs.Prelude.{ℕ, Bool, true, false, ◌&&◌, ◌||◌, not, List, [], ◌∷◌, filter, find, Option, Some, None, option_map, unwrap_or, is_some, nat_eq, nat_lt, if◌then◌else◌}
 use Rattle.rt_base.specs.Kind.{spins}
 use Rattle.rt_base.specs.declared.limits.TheConstants.{MAX_REALTIME}
 use Rattle.rt_base.specs.declared.id.TaskId.{TaskId}
@@ -40,6 +40,19 @@ top_task rows = option_map task_of (top_waiter rows)
 -- somebody is queued
 abbrev pub has_rows : List Row → Bool
 has_rows rows = is_some (top_waiter rows)
+
+-- two rows are one: they have the same key, ticket and task
+abbrev pub same_row : Row → Row → Bool
+same_row row other = nat_eq row.key other.key && nat_eq row.ticket other.ticket && nat_eq row.who other.who
+
+abbrev pub same_top : Option Row → Option Row → Bool
+same_top None None = true
+same_top (Some row) (Some other) = same_row row other
+same_top _ _ = false
+
+-- the top waiter is another row than it was
+abbrev pub top_changed : List Row → List Row → Bool
+top_changed before after = not (same_top (top_waiter before) (top_waiter after))
 
 -- ---- a task's row
 

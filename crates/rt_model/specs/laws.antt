@@ -8,6 +8,8 @@ pub mod Queued
 pub mod States
 pub mod AwakeTop
 pub mod Keys
+pub mod Walks
+pub mod OwnPriorities
 pub mod Lawful
 pub mod Local
 pub mod Holders

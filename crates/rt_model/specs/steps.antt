@@ -2,3 +2,4 @@
 pub mod Lock
 pub mod Task
 pub mod Thread
+pub mod Chain

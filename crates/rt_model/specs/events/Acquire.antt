@@ -1,10 +1,10 @@
 -- Acquires: fast, mark, take, busy.
-use Rattle.std.specs.Prelude.{ℕ, zero, suc, true, ◌&&◌, not, Option, Some, None, is_none, if◌then◌else◌}
+use Rattle.std.specs.Prelude.{ℕ, zero, suc, Bool, true, ◌&&◌, not, Option, Some, None, is_none, if◌then◌else◌}
 use Rattle.rt_base.specs.Kind.{spins}
 use Rattle.rt_base.specs.declared.id.LockId.{LockId}
 use Rattle.rt_base.specs.declared.id.TaskId.{TaskId}
 use Rattle.rt_base.specs.declared.kind.Kind.{Kind}
-use Rattle.rt_base.specs.declared.reply.Reply.TheVariants.{Got}
+use Rattle.rt_base.specs.declared.reply.Reply.TheVariants.{Got, Busy}
 use Rattle.rt_model.specs.declared.event.Event.{Event}
 use Rattle.rt_model.specs.declared.event_kind.EventKind.TheVariants as kinds
 use Rattle.rt_model.specs.declared.phase.Phase.TheVariants.{Slow}
@@ -23,8 +23,12 @@ fast_event t l = record (bare t kinds.Fast) { lock = Some l; reply = Some Got }
 abbrev pub mark_event : TaskId → LockId → Event
 mark_event t l = record (bare t kinds.Mark) { lock = Some l }
 
+-- the lock has no owner, and its bit is clear
+abbrev pub is_free : OwnerPart → Bool
+is_free lock = is_none lock.owner && not lock.bit
+
 abbrev pub acquire_event : TaskId → LockId → OwnerPart → Event
-acquire_event t l lock = if is_none lock.owner && not lock.bit then fast_event t l else mark_event t l
+acquire_event t l lock = if is_free lock then fast_event t l else mark_event t l
 
 -- the task is the owner
 abbrev pub fast : Rule
@@ -40,7 +44,7 @@ mark = record {
   effect = λ e thread found. record unchanged { lock = λ lock. record lock { bit = true }; thread = λ left th. record th { phase = Slow } };
 }
 
--- ---- take: a call that has set the bit, or is queued and runs, takes the lock where it may
+-- ---- take: a call that has set the bit, is queued and runs, or tries, takes the lock where it may
 
 -- the task isn't queued any more, and keeps the key of the top waiter that is left
 abbrev pub taker : Option LockId → Kind → OwnerPart → TaskPart → TaskPart
@@ -63,7 +67,14 @@ take = record {
   effect = λ e thread found. record unchanged { lock = taken_by e.task; own = taker e.lock (kind_named thread e.lock) };
 }
 
--- ---- busy: a call that tries, or a reader, finds the lock taken; no script makes it yet
+-- ---- busy: a call that tries, or a reader, finds the lock taken; so far of a call that tries for a mutex
+
+abbrev pub busy_event : TaskId → LockId → OwnerPart → Event
+busy_event t l lock = record (bare t kinds.Busy) { lock = Some l; owner = lock.owner; reply = Some Busy }
+
+-- a call that tries gets a free lock at once, takes one that it may take, and else is answered busy
+abbrev pub try_event : TaskId → LockId → Kind → OwnerPart → TaskPart → Event
+try_event t l kind lock task = if is_free lock then fast_event t l else take_or (busy_event t l lock) t l kind lock task
 
 -- it looks at the reader part where it reads; else at the owner part, and where that has no owner at its own task
 abbrev pub unowned : TaskId → Option TaskId → Option TaskId
@@ -74,5 +85,6 @@ abbrev pub busy_touched : ℕ → Event → Touched
 busy_touched zero e = record nothing { lock = e.lock; own = unowned e.task e.owner }
 busy_touched (suc n) e = record nothing { readers = e.lock }
 
+-- nothing but its answer
 abbrev pub busy : Rule
 busy = touches_alone (λ e. busy_touched e.value e)

@@ -14,15 +14,14 @@ use Rattle.rt_model.specs.Parts.{OwnerPart, TaskPart, effective_of, kind_named, 
 use Rattle.rt_model.specs.steps.Lock.{queued}
 use Rattle.rt_model.specs.steps.Task.{refreshed, rest_of, blocked_on}
 use Rattle.rt_model.specs.Effect.{Rule, nothing, unchanged, touches_alone}
-use Rattle.rt_model.specs.Choice.{bare, boost_of}
+use Rattle.rt_model.specs.Choice.{bare, boost_at}
 use Rattle.rt_model.specs.events.Acquire.{take_or}
 
 -- ---- wait: a call that has set the bit, and may not take the lock, is queued
 
 -- what a lock with these rows changes of its owner's priority
 abbrev pub owner_boost : LockId → OwnerPart → Option TaskId → TaskPart → Option (TaskId × ℕ)
-owner_boost l lock None owner = None
-owner_boost l lock (Some o) owner = boost_of o (effective_of owner) (effective_of (refreshed (Some l) lock.rows owner))
+owner_boost l lock owner task = boost_at owner (effective_of task) (effective_of (refreshed (Some l) lock.rows task))
 
 abbrev pub wait_event : TaskId → LockId → OwnerPart → TaskPart → TaskPart → Event
 wait_event t l lock task owner = record (bare t kinds.Wait) {

@@ -1,10 +1,11 @@
 -- Each task's calls, read off a list of events.
-use Rattle.std.specs.Prelude.{◌≡◌, ℕ, zero, suc, ◌<◌, Bool, true, false, List, [], ◌∷◌, length, filter, Option, Some, None, nat_eq}
+use Rattle.std.specs.Prelude.{◌≡◌, ℕ, zero, suc, ◌<◌, Bool, true, false, List, [], ◌∷◌, ◌++◌, length, filter, Option, Some, None, IsSome, option_map, nat_eq}
 use Rattle.rt_base.specs.Script.{Script, task_line}
 use Rattle.rt_base.specs.declared.call.Call.{Call}
 use Rattle.rt_base.specs.declared.call.Call.TheVariants as calls
 use Rattle.rt_base.specs.declared.ended.Ended.TheVariants.{Done}
 use Rattle.rt_base.specs.declared.id.Cpu.{Cpu}
+use Rattle.rt_base.specs.declared.id.LockId.{LockId}
 use Rattle.rt_base.specs.declared.id.TaskId.{TaskId}
 use Rattle.rt_base.specs.declared.reply.Reply.{Reply}
 use Rattle.rt_base.specs.declared.reply.Reply.TheVariants as replies
@@ -12,8 +13,9 @@ use Rattle.rt_model.specs.declared.event.Event.{Event}
 use Rattle.rt_model.specs.declared.event_kind.EventKind.{EventKind}
 use Rattle.rt_model.specs.declared.event_kind.EventKind.TheVariants as kinds
 use Rattle.rt_model.specs.Choice.{called_lock}
-use Rattle.rt_model.specs.State.{start, thread_part}
+use Rattle.rt_model.specs.State.{State, start, task_part, thread_part}
 use Rattle.rt_model.specs.Run.{after, ended_of}
+use Rattle.rt_model.specs.laws.Keys.{StandsAt}
 
 -- the call can have an event of this kind with this answer; so far of the calls that are played
 abbrev pub can_have : Call → EventKind → Option Reply → Bool
@@ -22,16 +24,56 @@ can_have (calls.Lock l) kinds.Mark None = true
 can_have (calls.Lock l) kinds.Take (Some replies.Got) = true
 can_have (calls.Lock l) kinds.Wait None = true
 can_have (calls.Lock l) kinds.Again None = true
+can_have (calls.Lock l) kinds.Walk None = true
+can_have (calls.Lock l) kinds.WalkEnd None = true
 can_have (calls.Lock l) kinds.Own (Some replies.Deadlock) = true
+can_have (calls.TryLock l) kinds.Fast (Some replies.Got) = true
+can_have (calls.TryLock l) kinds.Take (Some replies.Got) = true
+can_have (calls.TryLock l) kinds.Busy (Some replies.Busy) = true
 can_have (calls.Unlock l) kinds.Free (Some replies.Done) = true
 can_have (calls.Unlock l) kinds.Give (Some replies.Done) = true
 can_have (calls.Unlock l) kinds.Own (Some replies.NotOwner) = true
+can_have (calls.SetPrio t prio) kinds.SetPrio None = true
+can_have (calls.SetPrio t prio) kinds.SetPrio (Some replies.Done) = true
+can_have (calls.SetPrio t prio) kinds.Walk None = true
+can_have (calls.SetPrio t prio) kinds.Walk (Some replies.Done) = true
+can_have (calls.SetPrio t prio) kinds.WalkEnd (Some replies.Done) = true
 can_have _ _ _ = false
+
+-- the task that a call names, and the number
+abbrev pub called_task : Call → Option TaskId
+called_task (calls.SetPrio t prio) = Some t
+called_task call = None
+
+abbrev pub called_number : Call → ℕ
+called_number (calls.SetPrio t prio) = prio
+called_number call = 0
+
+-- an event of this kind names what its call names, but those of a walk, of which a walk names a lock and a task, and its end a
+-- task alone
+abbrev pub NamesFor : EventKind → Cpu → Call → Event → Type 0
+NamesFor kinds.Walk cpu call e = IsSome e.lock × IsSome e.other × (e.value ≡ 0)
+NamesFor kinds.WalkEnd cpu call e = (e.lock ≡ None) × IsSome e.other × (e.value ≡ 0)
+NamesFor kind cpu call e = (e.lock ≡ called_lock cpu call) × (e.other ≡ called_task call) × (e.value ≡ called_number call)
 
 -- the event is one of the call, of a task on this processor
 pub record IsOfCall (cpu : Cpu) (call : Call) (e : Event) : Type 0 where
   pub can : can_have call e.kind e.reply ≡ true
-  pub lock : e.lock ≡ called_lock cpu call
+  pub names : NamesFor e.kind cpu call e
+
+-- an event of a walk, in the state that it comes in, names the task at which its task's walk stands, and the lock on which that
+-- one is blocked, where it is
+pub record IsOfWalk (s : State) (e : Event) : Type 0 where
+  pub cursor : TaskId
+  pub named : e.other ≡ Some cursor
+  pub stands : StandsAt cursor (thread_part s e.task).phase
+  pub lock : e.lock ≡ option_map (λ (at : LockId × ℕ). at.0) (task_part s cursor).blocked
+
+-- an event of this kind is a walk's
+abbrev pub is_of_walk : EventKind → Bool
+is_of_walk kinds.Walk = true
+is_of_walk kinds.WalkEnd = true
+is_of_walk _ = false
 
 -- an event with no answer leaves the call unfinished; an answer ends it, and counts
 abbrev pub then_make : (List Call → ℕ → Type 0) → Call → List Call → Option Reply → ℕ → Type 0
@@ -57,7 +99,9 @@ events_of t events = filter (λ e. nat_eq e.task.0 t.0) events
 abbrev pub answered_after : Script → List Event → TaskId → ℕ
 answered_after script events t = (thread_part (after (start script) events) t).answered
 
--- each task's events make its calls once and in order, as many as the report counts, and all where the run ended done
+-- each task's events make its calls once and in order, as many as the report counts, and all where the run ended done; those of
+-- a walk name where it stands
 pub record CallsLaw (script : Script) (events : List Event) : Type 0 where
   pub made : (t : TaskId) → t.0 < length script.tasks → Make (task_line script t).cpu (events_of t events) (task_line script t).calls (answered_after script events t)
   pub all : ended_of (after (start script) events) ≡ Done → (t : TaskId) → t.0 < length script.tasks → answered_after script events t ≡ length (task_line script t).calls
+  pub walks : (prefix rest : List Event) (e : Event) → prefix ++ e ∷ rest ≡ events → is_of_walk e.kind ≡ true → IsOfWalk (after (start script) prefix) e

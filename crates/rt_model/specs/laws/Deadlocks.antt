@@ -6,7 +6,7 @@ use Rattle.rt_model.specs.declared.event.Event.{Event}
 use Rattle.rt_model.specs.declared.event_kind.EventKind.TheVariants.{Own}
 use Rattle.rt_model.specs.laws.Holders.{holders_of}
 
--- a task that is answered deadlock holds the lock itself, by the events before; so far no cycle of several can stand
+-- a task that is answered deadlock holds the lock itself, by the events before; so far no cycle of several is answered
 pub record IsHeldItself (before : List Event) (e : Event) : Type 0 where
   pub kind : e.kind ≡ Own
   pub held : (l : LockId) × (e.lock ≡ Some l) × (holders_of before l ≡ Some e.task)

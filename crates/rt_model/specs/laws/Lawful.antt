@@ -11,6 +11,8 @@ use Rattle.rt_model.specs.laws.Queued.{QueuedLaw}
 use Rattle.rt_model.specs.laws.States.{StatesLaw}
 use Rattle.rt_model.specs.laws.AwakeTop.{AwakeTopLaw}
 use Rattle.rt_model.specs.laws.Keys.{KeysLaw}
+use Rattle.rt_model.specs.laws.Walks.{WalksLaw}
+use Rattle.rt_model.specs.laws.OwnPriorities.{OwnPrioritiesLaw}
 
 -- the state is lawful, where so many events were made
 pub record IsLawful (s : State) (made : ℕ) : Type 0 where
@@ -24,3 +26,5 @@ pub record IsLawful (s : State) (made : ℕ) : Type 0 where
   pub states : StatesLaw s
   pub awake : AwakeTopLaw s
   pub keys : KeysLaw s
+  pub walks : WalksLaw s
+  pub priorities : OwnPrioritiesLaw s

@@ -10,10 +10,10 @@ use Rattle.rt_model.specs.State.{State, kinds_in}
 use Rattle.rt_model.specs.Stage.{IsServed}
 
 -- a thread counts no more answers than it has calls, which are no more than a script may have, and each is served
-pub record IsThread (calls : List Call) (answered locks : ℕ) : Type 0 where
+pub record IsThread (calls : List Call) (answered tasks locks : ℕ) : Type 0 where
   pub within : answered ≤ length calls
   pub few : length calls ≤ MAX_CALLS
-  pub served : All (IsServed locks) calls
+  pub served : All (IsServed tasks locks) calls
 
 -- the lists of the state fit together
 pub record IsShaped (s : State) : Type 0 where
@@ -42,10 +42,11 @@ pub record SameSize (s other : State) : Type 0 where
   pub tasks : length other.tasks ≡ length s.tasks
   pub threads : length other.threads ≡ length s.threads
 
--- the task, the lock, the owner, the one that is woken and the one whose priority changes are in the state
+-- the task, the lock, the other task, the owner, the one that is woken and the one whose priority changes are in the state
 pub record IsWithin (tasks locks : ℕ) (e : Event) : Type 0 where
   pub task : e.task.0 < tasks
   pub lock : IfSome e.lock (λ l. l.0 < locks)
+  pub other : IfSome e.other (λ t. t.0 < tasks)
   pub owner : IfSome e.owner (λ t. t.0 < tasks)
   pub woken : IfSome e.woken (λ t. t.0 < tasks)
   pub boost : IfSome e.boost (λ b. b.0.0 < tasks)

@@ -22,6 +22,10 @@ with_top (Some l) top task = record task { kept = slice_set task.kept l.0 top }
 abbrev pub refreshed : Option LockId → List Row → TaskPart → TaskPart
 refreshed l rows task = with_top l (top_key rows) task
 
+-- the own priority is another; the effective one settles with it
+abbrev pub with_own : ℕ → TaskPart → TaskPart
+with_own prio task = record task { own = prio }
+
 -- ---- waits
 
 -- the state in which a call sleeps in an ordinary way

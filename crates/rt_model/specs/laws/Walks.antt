@@ -1,0 +1,32 @@
+-- Walks law.
+use Rattle.std.specs.Prelude.{◌≡◌, ◌≢◌, ◌⊎◌, ℕ, ◌<◌, List, [], ◌∷◌, length, All, AllPairs, Option, Some}
+use Rattle.rt_base.specs.declared.id.LockId.{LockId}
+use Rattle.rt_base.specs.declared.id.TaskId.{TaskId}
+use Rattle.rt_model.specs.declared.phase.Phase.{Phase}
+use Rattle.rt_model.specs.declared.phase.Phase.TheVariants.{Walk}
+use Rattle.rt_model.specs.declared.phase.Route.TheVariants.{Full, Short}
+use Rattle.rt_model.specs.State.{State, thread_part}
+use Rattle.rt_model.specs.laws.Queued.{present_lock}
+
+-- the path begins with this task and this lock
+abbrev pub BeginsWith : TaskId → Option LockId → List (ℕ × ℕ) → Type 0
+BeginsWith t lock [] = ⊥
+BeginsWith t lock (link ∷ path) = (link.0 ≡ t.0) × (lock ≡ Some (record { 0 = link.1 }))
+
+-- a full walk of a task that waits for this lock: its path is empty with the cursor on the walker, or begins with the walker and
+-- its lock; the tasks of the path are there and differ, and the cursor isn't one of them
+pub record IsFullWalk (tasks : ℕ) (t : TaskId) (lock : Option LockId) (cursor : TaskId) (path : List (ℕ × ℕ)) : Type 0 where
+  pub begins : ((path ≡ []) × (cursor ≡ t)) ⊎ BeginsWith t lock path
+  pub there : All (λ (link : ℕ × ℕ). link.0 < tasks) path
+  pub differ : AllPairs (λ (link other : ℕ × ℕ). link.0 ≢ other.0) path
+  pub ahead : All (λ (link : ℕ × ℕ). link.0 ≢ cursor.0) path
+
+-- a walk's cursor is there, and a full walk has such a path
+abbrev pub IsWalkOf : ℕ → TaskId → Option LockId → Phase → Type 0
+IsWalkOf tasks t lock (Walk cursor (Full path)) = (cursor.0 < tasks) × IsFullWalk tasks t lock cursor path
+IsWalkOf tasks t lock (Walk cursor (Short answer)) = cursor.0 < tasks
+IsWalkOf tasks t lock _ = Unit {0}
+
+-- so each walk
+abbrev pub WalksLaw : State → Type 0
+WalksLaw s = (t : TaskId) → IsWalkOf (length s.threads) t (present_lock (thread_part s t)) (thread_part s t).phase

@@ -22,18 +22,18 @@ at_call s t call at = there (slice_get_cases s.threads t.0).1
         no_call none = let gone : call_of (thread_part s t) ≡ None = rw none refl in cc
 
 -- a call of a state's thread is served
-pub served_call : (s : State) (t : TaskId) (call : Call) → IsStaged s → call_of (thread_part s t) ≡ Some call → IsServed (length s.locks) call
+pub served_call : (s : State) (t : TaskId) (call : Call) → IsStaged s → call_of (thread_part s t) ≡ Some call → IsServed (length s.threads) (length s.locks) call
 served_call s t call staged at =
     let here = at_call s t call at in
-    let all = All-at (λ (thread : ThreadPart). All (IsServed (length s.locks)) thread.calls) s.threads t.0 (thread_part s t) staged.served here.0 in
-    All-at (IsServed (length s.locks)) (thread_part s t).calls (thread_part s t).answered call all at
+    let all = All-at (λ (thread : ThreadPart). All (IsServed (length s.threads) (length s.locks)) thread.calls) s.threads t.0 (thread_part s t) staged.served here.0 in
+    All-at (IsServed (length s.threads) (length s.locks)) (thread_part s t).calls (thread_part s t).answered call all at
 
--- the task is in this phase of this call, which is on a lock of the state
+-- the task is in this phase of this call, which names what is in the state
 pub record IsIn (s : State) (t : TaskId) (phase : Phase) (call : Call) : Type 0 where
   pub calling : call_of (thread_part s t) ≡ Some call
   pub phased : (thread_part s t).phase ≡ phase
   pub task : t.0 < length s.threads
-  pub served : IsServed (length s.locks) call
+  pub served : IsServed (length s.threads) (length s.locks) call
 
 -- the thread that was read is the task's
 pub thread_part-index : (s : State) (t : TaskId) (thread : ThreadPart) → t.0 < length s.threads → thread ≡ get_or s.threads t.0 thread → thread_part s t ≡ thread

@@ -1,5 +1,5 @@
 -- The choice of an event reads only what the event touches, in any state; and that there is none is told by a thread and its task.
-use Rattle.std.proofs.Common.{◌≡◌, Bool, true, false, cond, not, ◌&&◌, ◌||◌, refl, sym, ap, ◌∙◌, subst, Option, Some, None, is_none, is_some, IfSome}
+use Rattle.std.proofs.Common.{◌≡◌, ℕ, Bool, true, false, cond, not, ◌&&◌, ◌||◌, refl, sym, ap, ◌∙◌, subst, Option, Some, None, is_none, is_some, IfSome}
 use Rattle.rt_base.specs.declared.call.Call.{Call}
 use Rattle.rt_base.specs.declared.call.Call.TheVariants as calls
 use Rattle.rt_base.specs.declared.id.LockId.{LockId}
@@ -11,22 +11,27 @@ use Rattle.rt_base.specs.declared.state.TaskState.TheVariants as states
 use Rattle.rt_model.specs.declared.event.Event.{Event}
 use Rattle.rt_model.specs.declared.phase.Phase.{Phase}
 use Rattle.rt_model.specs.declared.phase.Phase.TheVariants as phases
+use Rattle.rt_model.specs.declared.phase.Route.{Route}
 use Rattle.rt_model.specs.Parts.{OwnerPart, TaskPart, ThreadPart, kind_of, call_of}
 use Rattle.rt_model.specs.Rows.{can_take}
 use Rattle.rt_model.specs.State.{State, Shared, shared, lock_in, task_in, task_at, task_part, thread_part}
 use Rattle.rt_model.specs.Choice.{called_lock}
-use Rattle.rt_model.specs.events.Acquire.{acquire_event, take_event}
+use Rattle.rt_model.specs.events.Acquire.{fast_event, is_free, acquire_event, take_event, busy_event, try_event}
 use Rattle.rt_model.specs.events.Release.{give_event, release_event}
 use Rattle.rt_model.specs.events.Wait.{wait_event, slow_event, queued_event}
+use Rattle.rt_model.specs.events.Walk.{cursor_event}
+use Rattle.rt_model.specs.events.Wakeups.{setprio_event}
 use Rattle.rt_model.specs.events.Own.{own_answer}
 use Rattle.rt_model.specs.NextEvent.{answered_or, first_event, later_event, event_in, event_of, next_of, next_event}
 use Rattle.rt_model.specs.laws.Local.{AgreeOn}
 use Rattle.rt_model.proofs.EffectLocal.{agree-thread, agree-shared}
 use Rattle.rt_model.proofs.Touching.{touches-thread}
 use Rattle.rt_model.proofs.Alike.{GivesAlike, gives_alike}
-use Rattle.rt_model.proofs.events.Acquire.{same-acquire}
+use Rattle.rt_model.proofs.events.Acquire.{same-acquire, same-try}
 use Rattle.rt_model.proofs.events.Release.{same-release}
 use Rattle.rt_model.proofs.events.Wait.{same-slow, same-queued}
+use Rattle.rt_model.proofs.events.Walk.{same-cursor}
+use Rattle.rt_model.proofs.events.Wakeups.{same-setprio}
 
 -- ---- a task's next event is its own
 
@@ -37,14 +42,22 @@ either-own : (t : TaskId) (b : Bool) (x y : Event) → x.task ≡ t → y.task �
 either-own t true x y first second = first
 either-own t false x y first second = second
 
-first-own : (sh : Shared) (t : TaskId) (call : Call) → IsOwn t (first_event sh t call)
-first-own sh t (calls.Lock l) = either-own t (is_none (lock_in sh l).owner && not (lock_in sh l).bit) _ _ refl refl
-first-own sh t (calls.Unlock l) = either-own t (lock_in sh l).bit (give_event t l (lock_in sh l) (task_in sh t)) _ refl refl
-first-own sh t _ = tt
+first-own : (sh : Shared) (t : TaskId) (thread : ThreadPart) (call : Call) → IsOwn t (first_event sh t thread call)
+first-own sh t thread (calls.Lock l) = either-own t (is_free (lock_in sh l)) _ _ refl refl
+first-own sh t thread (calls.TryLock l) =
+    either-own t (is_free (lock_in sh l)) (fast_event t l) _ refl
+    (either-own t (can_take t (kind_of thread l) (lock_in sh l) (task_in sh t)) (take_event t l (kind_of thread l) (lock_in sh l) (task_in sh t)) (busy_event t l (lock_in sh l)) refl refl)
+first-own sh t thread (calls.Unlock l) = either-own t (lock_in sh l).bit (give_event t l (lock_in sh l) (task_in sh t)) _ refl refl
+first-own sh t thread (calls.SetPrio u prio) = refl
+first-own sh t thread _ = tt
 
-answered-own : (sh : Shared) (t : TaskId) (call : Call) (lock : Option LockId) (answer : Option Reply) → IsOwn t (answered_or (first_event sh t call) t lock answer)
-answered-own sh t call lock None = first-own sh t call
-answered-own sh t call lock (Some answer) = refl
+cursor-own : (sh : Shared) (t : TaskId) (route : Route) (u : TaskId) (cursor : TaskPart) (blocked : Option (LockId × ℕ)) → (cursor_event sh t route u cursor blocked).task ≡ t
+cursor-own sh t route u cursor None = refl
+cursor-own sh t route u cursor (Some at) = refl
+
+answered-own : (sh : Shared) (t : TaskId) (thread : ThreadPart) (call : Call) (lock : Option LockId) (answer : Option Reply) → IsOwn t (answered_or (first_event sh t thread call) t lock answer)
+answered-own sh t thread call lock None = first-own sh t thread call
+answered-own sh t thread call lock (Some answer) = refl
 
 queued-own : (t : TaskId) (l : LockId) (kind : Kind) (lock : OwnerPart) (task : TaskPart) (state : TaskState) → IsOwn t (queued_event t l kind lock task state)
 queued-own t l kind lock task states.Running = either-own t (can_take t kind lock task) (take_event t l kind lock task) _ refl refl
@@ -54,10 +67,11 @@ later-own : (phase : Phase) (sh : Shared) (t : TaskId) (thread : ThreadPart) (lo
 later-own phases.Slow sh t thread (Some l) =
     either-own t (can_take t (kind_of thread l) (lock_in sh l) (task_in sh t)) (take_event t l (kind_of thread l) (lock_in sh l) (task_in sh t)) (wait_event t l (lock_in sh l) (task_in sh t) (task_at sh (lock_in sh l).owner)) refl refl
 later-own phases.Wait sh t thread (Some l) = queued-own t l (kind_of thread l) (lock_in sh l) (task_in sh t) (task_in sh t).state
+later-own (phases.Walk u route) sh t thread lock = cursor-own sh t route u (task_in sh u) (task_in sh u).blocked
 later-own _ sh t thread lock = tt
 
 in_phase-own : (phase : Phase) (sh : Shared) (t : TaskId) (thread : ThreadPart) (call : Call) → IsOwn t (event_in phase sh t thread call)
-in_phase-own phases.Start sh t thread call = answered-own sh t call (called_lock thread.cpu call) (own_answer thread call)
+in_phase-own phases.Start sh t thread call = answered-own sh t thread call (called_lock thread.cpu call) (own_answer thread call)
 in_phase-own phase sh t thread call = later-own phase sh t thread (called_lock thread.cpu call)
 
 at_call-own : (sh : Shared) (t : TaskId) (thread : ThreadPart) (call : Option Call) → IsOwn t (event_of sh t thread call)
@@ -69,22 +83,25 @@ task-next_event s t e is = subst (IsOwn t) is (at_call-own (shared s) t (thread_
 
 -- ---- the same event
 
-local-first : (t : TaskId) (call : Call) (a b : Shared) → GivesAlike (λ sh. first_event sh t call) a b
-local-first t (calls.Lock l) a b = gives_alike (λ sh. acquire_event t l (lock_in sh l)) a b (same-acquire a b t l)
-local-first t (calls.Unlock l) a b = gives_alike (λ sh. release_event t l (lock_in sh l) (task_in sh t)) a b (same-release a b t l)
-local-first t _ a b = λ e is alike. is
+local-first : (t : TaskId) (thread : ThreadPart) (call : Call) (a b : Shared) → GivesAlike (λ sh. first_event sh t thread call) a b
+local-first t thread (calls.TryLock l) a b = gives_alike (λ sh. try_event t l (kind_of thread l) (lock_in sh l) (task_in sh t)) a b (same-try a b t l (kind_of thread l))
+local-first t thread (calls.SetPrio u prio) a b = gives_alike (λ sh. setprio_event t u prio (task_in sh u)) a b (same-setprio a b t u prio)
+local-first t thread (calls.Lock l) a b = gives_alike (λ sh. acquire_event t l (lock_in sh l)) a b (same-acquire a b t l)
+local-first t thread (calls.Unlock l) a b = gives_alike (λ sh. release_event t l (lock_in sh l) (task_in sh t)) a b (same-release a b t l)
+local-first t thread _ a b = λ e is alike. is
 
-local-answered : (t : TaskId) (call : Call) (lock : Option LockId) (answer : Option Reply) (a b : Shared) → GivesAlike (λ sh. answered_or (first_event sh t call) t lock answer) a b
-local-answered t call lock None a b = local-first t call a b
-local-answered t call lock (Some answer) a b = λ e is alike. is
+local-answered : (t : TaskId) (thread : ThreadPart) (call : Call) (lock : Option LockId) (answer : Option Reply) (a b : Shared) → GivesAlike (λ sh. answered_or (first_event sh t thread call) t lock answer) a b
+local-answered t thread call lock None a b = local-first t thread call a b
+local-answered t thread call lock (Some answer) a b = λ e is alike. is
 
 local-later : (phase : Phase) (t : TaskId) (thread : ThreadPart) (lock : Option LockId) (a b : Shared) → GivesAlike (λ sh. later_event phase sh t thread lock) a b
 local-later phases.Slow t thread (Some l) a b = gives_alike (λ sh. slow_event t l (kind_of thread l) (lock_in sh l) (task_in sh t) (task_at sh (lock_in sh l).owner)) a b (same-slow a b t l (kind_of thread l))
 local-later phases.Wait t thread (Some l) a b = same-queued t l (kind_of thread l) a b
+local-later (phases.Walk u route) t thread lock a b = gives_alike (λ sh. cursor_event sh t route u (task_in sh u) (task_in sh u).blocked) a b (same-cursor a b t route u)
 local-later _ t thread lock a b = λ e is alike. is
 
 local-in : (phase : Phase) (t : TaskId) (thread : ThreadPart) (call : Call) (a b : Shared) → GivesAlike (λ sh. event_in phase sh t thread call) a b
-local-in phases.Start t thread call a b = local-answered t call (called_lock thread.cpu call) (own_answer thread call) a b
+local-in phases.Start t thread call a b = local-answered t thread call (called_lock thread.cpu call) (own_answer thread call) a b
 local-in phase t thread call a b = local-later phase t thread (called_lock thread.cpu call) a b
 
 local-of : (t : TaskId) (thread : ThreadPart) (call : Option Call) (a b : Shared) → GivesAlike (λ sh. event_of sh t thread call) a b
@@ -104,7 +121,9 @@ local s other t e is agree =
 -- whether there is a next event, by the thread and its own task alone
 abbrev has_first : Call → Bool
 has_first (calls.Lock l) = true
+has_first (calls.TryLock l) = true
 has_first (calls.Unlock l) = true
+has_first (calls.SetPrio u prio) = true
 has_first _ = false
 
 abbrev runs : TaskState → Bool
@@ -114,6 +133,7 @@ runs _ = false
 abbrev can_later : Phase → TaskState → Option LockId → Bool
 can_later phases.Slow state (Some l) = true
 can_later phases.Wait state (Some l) = runs state
+can_later (phases.Walk u route) state lock = true
 can_later _ state lock = false
 
 abbrev can_in : Phase → TaskState → ThreadPart → Call → Bool
@@ -127,14 +147,16 @@ can_at thread state (Some call) = can_in thread.phase state thread call
 abbrev pub can_move : ThreadPart → TaskPart → Bool
 can_move thread task = can_at thread task.state (call_of thread)
 
-has-first : (sh : Shared) (t : TaskId) (call : Call) → is_some (first_event sh t call) ≡ has_first call
-has-first sh t (calls.Lock l) = refl
-has-first sh t (calls.Unlock l) = refl
-has-first sh t _ = refl
+has-first : (sh : Shared) (t : TaskId) (thread : ThreadPart) (call : Call) → is_some (first_event sh t thread call) ≡ has_first call
+has-first sh t thread (calls.Lock l) = refl
+has-first sh t thread (calls.TryLock l) = refl
+has-first sh t thread (calls.Unlock l) = refl
+has-first sh t thread (calls.SetPrio u prio) = refl
+has-first sh t thread _ = refl
 
-has-answered : (sh : Shared) (t : TaskId) (call : Call) (lock : Option LockId) (answer : Option Reply) → is_some (answered_or (first_event sh t call) t lock answer) ≡ (is_some answer || has_first call)
-has-answered sh t call lock None = has-first sh t call
-has-answered sh t call lock (Some answer) = refl
+has-answered : (sh : Shared) (t : TaskId) (thread : ThreadPart) (call : Call) (lock : Option LockId) (answer : Option Reply) → is_some (answered_or (first_event sh t thread call) t lock answer) ≡ (is_some answer || has_first call)
+has-answered sh t thread call lock None = has-first sh t thread call
+has-answered sh t thread call lock (Some answer) = refl
 
 has-queued : (t : TaskId) (l : LockId) (kind : Kind) (lock : OwnerPart) (task : TaskPart) (state : TaskState) → is_some (queued_event t l kind lock task state) ≡ runs state
 has-queued t l kind lock task states.Running = refl
@@ -143,10 +165,11 @@ has-queued t l kind lock task _ = refl
 has-later : (phase : Phase) (sh : Shared) (t : TaskId) (thread : ThreadPart) (lock : Option LockId) → is_some (later_event phase sh t thread lock) ≡ can_later phase (task_in sh t).state lock
 has-later phases.Slow sh t thread (Some l) = refl
 has-later phases.Wait sh t thread (Some l) = has-queued t l (kind_of thread l) (lock_in sh l) (task_in sh t) (task_in sh t).state
+has-later (phases.Walk u route) sh t thread lock = refl
 has-later _ sh t thread lock = refl
 
 has-in : (phase : Phase) (sh : Shared) (t : TaskId) (thread : ThreadPart) (call : Call) → is_some (event_in phase sh t thread call) ≡ can_in phase (task_in sh t).state thread call
-has-in phases.Start sh t thread call = has-answered sh t call (called_lock thread.cpu call) (own_answer thread call)
+has-in phases.Start sh t thread call = has-answered sh t thread call (called_lock thread.cpu call) (own_answer thread call)
 has-in phase sh t thread call = has-later phase sh t thread (called_lock thread.cpu call)
 
 has-of : (sh : Shared) (t : TaskId) (thread : ThreadPart) (call : Option Call) → is_some (event_of sh t thread call) ≡ can_at thread (task_in sh t).state call

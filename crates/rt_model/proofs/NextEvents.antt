@@ -1,5 +1,5 @@
 -- How the next event of a task comes about.
-use Rattle.std.proofs.Common.{◌≡◌, ◌⊎◌, inl, inr, refl, ap, subst, Option, Some, None, length}
+use Rattle.std.proofs.Common.{◌≡◌, ◌⊎◌, inl, inr, ℕ, refl, sym, ap, subst, Option, Some, None, length}
 use Rattle.rt_base.specs.declared.call.Call.{Call}
 use Rattle.rt_base.specs.declared.call.Call.TheVariants as calls
 use Rattle.rt_base.specs.declared.id.LockId.{LockId}
@@ -8,21 +8,26 @@ use Rattle.rt_base.specs.declared.reply.Reply.{Reply}
 use Rattle.rt_model.specs.declared.event.Event.{Event}
 use Rattle.rt_model.specs.declared.phase.Phase.{Phase}
 use Rattle.rt_model.specs.declared.phase.Phase.TheVariants as phases
+use Rattle.rt_model.specs.declared.phase.Route.{Route}
 use Rattle.rt_model.specs.Parts.{call_of, kind_of}
 use Rattle.rt_model.specs.Choice.{called_lock}
 use Rattle.rt_model.specs.State.{State, shared, task_at, owner_part, task_part, thread_part}
 use Rattle.rt_model.specs.Stage.{IsServed, IsStaged, IsPhaseOf}
-use Rattle.rt_model.specs.events.Acquire.{acquire_event}
+use Rattle.rt_model.specs.events.Acquire.{acquire_event, try_event}
 use Rattle.rt_model.specs.events.Release.{release_event}
 use Rattle.rt_model.specs.events.Wait.{slow_event}
+use Rattle.rt_model.specs.events.Walk.{cursor_event}
+use Rattle.rt_model.specs.events.Wakeups.{setprio_event}
 use Rattle.rt_model.specs.events.Own.{own_answer}
 use Rattle.rt_model.specs.NextEvent.{first_event, answered_or, later_event, event_in, event_of, next_event}
 use Rattle.rt_model.specs.laws.Phases.{PhasesLaw}
 use Rattle.rt_model.proofs.Calling.{IsIn, at_call, served_call}
 use Rattle.rt_model.proofs.events.Own.{IsOwn, not_held, was_held}
-use Rattle.rt_model.proofs.events.Acquire.{IsAcquire, IsTake, is_fast, is_mark, is_take, acquired}
+use Rattle.rt_model.proofs.events.Acquire.{IsAcquire, IsTake, is_fast, is_mark, is_take, is_busy, acquired, tried}
 use Rattle.rt_model.proofs.events.Release.{IsRelease, is_free, is_give, released}
 use Rattle.rt_model.proofs.events.Wait.{IsWaiting, is_wait, is_again, slowed, woken_up}
+use Rattle.rt_model.proofs.events.Walk.{IsWalking, is_walk, is_walkend, walked}
+use Rattle.rt_model.proofs.events.Wakeups.{IsSetPrio}
 
 -- one constructor a family
 pub data IsNext (s : State) (t : TaskId) (e : Event) : Type 0 where
@@ -30,14 +35,18 @@ pub data IsNext (s : State) (t : TaskId) (e : Event) : Type 0 where
   by_acquire : (l : LockId) → IsAcquire s t l e → IsNext s t e
   by_wait : (l : LockId) → IsWaiting s t l e → IsNext s t e
   by_release : (l : LockId) → IsRelease s t l e → IsNext s t e
+  by_walk : (route : Route) (u : TaskId) → IsWalking s t route u e → IsNext s t e
+  by_setprio : (u : TaskId) (prio : ℕ) → IsSetPrio s t u prio e → IsNext s t e
 
-first_next : (s : State) (t : TaskId) (call : Call) (e : Event) → IsIn s t phases.Start call → IsServed (length s.locks) call → own_answer (thread_part s t) call ≡ None → first_event (shared s) t call ≡ Some e → IsNext s t e
+first_next : (s : State) (t : TaskId) (call : Call) (e : Event) → IsIn s t phases.Start call → IsServed (length s.threads) (length s.locks) call → own_answer (thread_part s t) call ≡ None → first_event (shared s) t (thread_part s t) call ≡ Some e → IsNext s t e
 first_next s t (calls.Lock l) e at served none is = let same : acquire_event t l (owner_part s l) ≡ e = cc in by_acquire l (acquired s t l e at (not_held _ _ none) same)
+first_next s t (calls.TryLock l) e at served none is = let same : try_event t l (kind_of (thread_part s t) l) (owner_part s l) (task_part s t) ≡ e = cc in by_acquire l (tried s t l e at same)
+first_next s t (calls.SetPrio u prio) e at served none is = by_setprio u prio (record { at = at; event = let same : setprio_event t u prio (task_part s u) ≡ e = cc in sym same })
 first_next s t (calls.Unlock l) e at served none is = let same : release_event t l (owner_part s l) (task_part s t) ≡ e = cc in by_release l (released s t l e at (was_held _ none) same)
 first_next s t _ e at served none is = absurd served
 
-started : (s : State) (t : TaskId) (call : Call) (e : Event) (answer : Option Reply) → IsIn s t phases.Start call → IsServed (length s.locks) call → own_answer (thread_part s t) call ≡ answer
-    → answered_or (first_event (shared s) t call) t (called_lock (thread_part s t).cpu call) answer ≡ Some e → IsNext s t e
+started : (s : State) (t : TaskId) (call : Call) (e : Event) (answer : Option Reply) → IsIn s t phases.Start call → IsServed (length s.threads) (length s.locks) call → own_answer (thread_part s t) call ≡ answer
+    → answered_or (first_event (shared s) t (thread_part s t) call) t (called_lock (thread_part s t).cpu call) answer ≡ Some e → IsNext s t e
 started s t call e None at served none is = first_next s t call e at served none is
 started s t call e (Some answer) at served some is = by_own call answer (record { at = at; why = some; event = cc })
 
@@ -58,6 +67,8 @@ in_phase : (s : State) (t : TaskId) (call : Call) (e : Event) (phase : Phase) �
 in_phase s t call e phases.Start at fits is = started s t call e (own_answer (thread_part s t) call) at at.served refl is
 in_phase s t call e phases.Slow at fits is = in_slow s t call e at fits is
 in_phase s t call e phases.Wait at fits is = in_wait s t call e at fits is
+in_phase s t call e (phases.Walk u route) at fits is =
+    let same : cursor_event (shared s) t route u (task_part s u) (task_part s u).blocked ≡ e = cc in by_walk route u (walked s t call route u e at fits same)
 in_phase s t call e _ at fits is = absurd fits
 
 at_call_of : (s : State) (t : TaskId) (e : Event) (call : Option Call) → IsStaged s → PhasesLaw s → call_of (thread_part s t) ≡ call → event_of (shared s) t (thread_part s t) call ≡ Some e → IsNext s t e
@@ -76,7 +87,11 @@ task-IsNext s t e (by_own call answer is) = ap (λ (x : Event). x.task) is.event
 task-IsNext s t e (by_acquire l (is_fast is)) = ap (λ (x : Event). x.task) is.event
 task-IsNext s t e (by_acquire l (is_mark is)) = ap (λ (x : Event). x.task) is.event
 task-IsNext s t e (by_acquire l (is_take is)) = ap (λ (x : Event). x.task) is.event
+task-IsNext s t e (by_acquire l (is_busy is)) = ap (λ (x : Event). x.task) is.event
 task-IsNext s t e (by_wait l (is_wait is)) = ap (λ (x : Event). x.task) is.event
 task-IsNext s t e (by_wait l (is_again is)) = ap (λ (x : Event). x.task) is.event
 task-IsNext s t e (by_release l (is_free is)) = ap (λ (x : Event). x.task) is.event
 task-IsNext s t e (by_release l (is_give is)) = ap (λ (x : Event). x.task) is.event
+task-IsNext s t e (by_walk route u (is_walk l key is)) = ap (λ (x : Event). x.task) is.event
+task-IsNext s t e (by_walk route u (is_walkend is)) = ap (λ (x : Event). x.task) is.event
+task-IsNext s t e (by_setprio u prio is) = ap (λ (x : Event). x.task) is.event

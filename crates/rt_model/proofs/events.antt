@@ -3,3 +3,5 @@ pub mod Own
 pub mod Acquire
 pub mod Release
 pub mod Wait
+pub mod Walk
+pub mod Wakeups

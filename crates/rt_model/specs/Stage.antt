@@ -49,5 +49,5 @@ IsPhaseOf phases.Start call = Unit {0}
 IsPhaseOf phases.Slow (Some (Lock l)) = Unit {0}
 IsPhaseOf phases.Wait (Some (Lock l)) = Unit {0}
 IsPhaseOf (phases.Walk cursor (Full path)) (Some (Lock l)) = Unit {0}
-IsPhaseOf (phases.Walk cursor (Short Done)) (Some (SetPrio t prio)) = Unit {0}
+IsPhaseOf (phases.Walk cursor (Short answer)) (Some (SetPrio t prio)) = answer ≡ Done
 IsPhaseOf _ call = ⊥

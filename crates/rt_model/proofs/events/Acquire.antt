@@ -1,28 +1,37 @@
 -- Acquires: how they come about, and that their choice reads only what they touch.
-use Rattle.std.proofs.Common.{◌≡◌, ◌⊎◌, inl, inr, Bool, true, false, cond, not, ◌&&◌, refl, sym, ap, Option, Some, None, is_none}
+use Rattle.std.proofs.Common.{◌≡◌, ◌⊎◌, inl, inr, ◌<◌, length, Bool, true, false, cond, not, ◌&&◌, refl, sym, ap, ◌∙◌, Option, Some, None, is_none}
+use Rattle.rt_base.specs.declared.call.Call.{Call}
 use Rattle.rt_base.specs.declared.call.Call.TheVariants as calls
 use Rattle.rt_base.specs.declared.id.LockId.{LockId}
 use Rattle.rt_base.specs.declared.id.TaskId.{TaskId}
+use Rattle.rt_base.specs.declared.kind.Kind.{Kind}
+use Rattle.rt_base.specs.declared.reply.Reply.TheVariants.{Got}
 use Rattle.rt_base.specs.declared.state.TaskState.TheVariants.{Running}
 use Rattle.rt_model.specs.declared.event.Event.{Event}
 use Rattle.rt_model.specs.declared.obj.Obj.TheVariants as objects
-use Rattle.rt_model.specs.declared.phase.Phase.{Phase}
 use Rattle.rt_model.specs.declared.phase.Phase.TheVariants as phases
-use Rattle.rt_model.specs.Parts.{hold_of, kind_of}
+use Rattle.rt_model.specs.Parts.{OwnerPart, TaskPart, call_of, hold_of, kind_of}
 use Rattle.rt_model.specs.Rows.{can_take}
-use Rattle.rt_model.specs.State.{State, Shared, lock_in, owner_part, task_part, thread_part}
+use Rattle.rt_model.specs.State.{State, Shared, lock_in, task_in, owner_part, task_part, thread_part}
+use Rattle.rt_model.specs.steps.Thread.{with_hold, holds_after}
 use Rattle.rt_model.specs.Footprint.{touches}
-use Rattle.rt_model.specs.events.Acquire.{fast_event, mark_event, acquire_event, take_event, take_or}
+use Rattle.rt_model.specs.events.Acquire.{fast_event, mark_event, is_free, acquire_event, take_event, take_or, busy_event, try_event}
 use Rattle.rt_model.proofs.Calling.{IsIn}
-use Rattle.rt_model.proofs.Touching.{touches-lock}
+use Rattle.rt_model.proofs.Touching.{touches-lock, touches-own}
 use Rattle.rt_model.proofs.Alike.{Alike}
 
 -- ---- how they come about
 
+-- the calls that acquire a lock: one that waits for it, which doesn't hold it, and one that tries
+pub data AcquiresIn (s : State) (t : TaskId) (l : LockId) : Type 0 where
+  by_lock : IsIn s t phases.Start (calls.Lock l) → (hold_of (thread_part s t) l).owns ≡ false → AcquiresIn s t l
+  by_trylock : IsIn s t phases.Start (calls.TryLock l) → AcquiresIn s t l
+
 -- the task gets a free lock at once
 pub record IsFast (s : State) (t : TaskId) (l : LockId) (e : Event) : Type 0 where
-  pub at : IsIn s t phases.Start (calls.Lock l)
-  pub unheld : (hold_of (thread_part s t) l).owns ≡ false
+  pub how : AcquiresIn s t l
+  pub task : t.0 < length s.threads
+  pub lock : l.0 < length s.locks
   pub owner : (owner_part s l).owner ≡ None
   pub bit : (owner_part s l).bit ≡ false
   pub event : e ≡ fast_event t l
@@ -33,41 +42,97 @@ pub record IsMark (s : State) (t : TaskId) (l : LockId) (e : Event) : Type 0 whe
   pub unheld : (hold_of (thread_part s t) l).owns ≡ false
   pub event : e ≡ mark_event t l
 
--- a task takes a lock with the bit set, or queued and woken
-abbrev pub TakesIn : State → TaskId → Phase → Type 0
-TakesIn s t phase = (phase ≡ phases.Slow) ⊎ ((phase ≡ phases.Wait) × ((task_part s t).state ≡ Running))
+-- a task takes a lock with the bit set, or queued and woken, or by a call that tries
+pub data TakesIn (s : State) (t : TaskId) (l : LockId) : Type 0 where
+  from_slow : IsIn s t phases.Slow (calls.Lock l) → TakesIn s t l
+  from_wait : IsIn s t phases.Wait (calls.Lock l) → (task_part s t).state ≡ Running → TakesIn s t l
+  from_trylock : IsIn s t phases.Start (calls.TryLock l) → TakesIn s t l
 
--- it takes the lock, from one of two phases
+-- it takes the lock
 pub record IsTake (s : State) (t : TaskId) (l : LockId) (e : Event) : Type 0 where
-  pub phase : Phase
-  pub at : IsIn s t phase (calls.Lock l)
-  pub queued : TakesIn s t phase
+  pub how : TakesIn s t l
+  pub task : t.0 < length s.threads
+  pub lock : l.0 < length s.locks
   pub can : can_take t (kind_of (thread_part s t) l) (owner_part s l) (task_part s t) ≡ true
   pub event : e ≡ take_event t l (kind_of (thread_part s t) l) (owner_part s l) (task_part s t)
+
+-- it tries, and may not take the lock
+pub record IsBusy (s : State) (t : TaskId) (l : LockId) (e : Event) : Type 0 where
+  pub at : IsIn s t phases.Start (calls.TryLock l)
+  pub cannot : can_take t (kind_of (thread_part s t) l) (owner_part s l) (task_part s t) ≡ false
+  pub event : e ≡ busy_event t l (owner_part s l)
 
 pub data IsAcquire (s : State) (t : TaskId) (l : LockId) (e : Event) : Type 0 where
   is_fast : IsFast s t l e → IsAcquire s t l e
   is_mark : IsMark s t l e → IsAcquire s t l e
   is_take : IsTake s t l e → IsAcquire s t l e
+  is_busy : IsBusy s t l e → IsAcquire s t l e
 
 pub acquired : (s : State) (t : TaskId) (l : LockId) (e : Event) → IsIn s t phases.Start (calls.Lock l) → (hold_of (thread_part s t) l).owns ≡ false → acquire_event t l (owner_part s l) ≡ e → IsAcquire s t l e
 acquired s t l e at unheld is = by_owner (owner_part s l).owner (owner_part s l).bit refl refl is
   where
     by_owner : (owner : Option TaskId) (bit : Bool) → (owner_part s l).owner ≡ owner → (owner_part s l).bit ≡ bit → cond (is_none owner && not bit) (fast_event t l) (mark_event t l) ≡ e → IsAcquire s t l e
-    by_owner None false none clear is = is_fast (record { at = at; unheld = unheld; owner = none; bit = clear; event = sym is })
+    by_owner None false none clear is = is_fast (record { how = by_lock at unheld; task = at.task; lock = at.served; owner = none; bit = clear; event = sym is })
     by_owner None true none set is = is_mark (record { at = at; unheld = unheld; event = sym is })
     by_owner (Some o) bit some b is = is_mark (record { at = at; unheld = unheld; event = sym is })
 
 -- a task that takes the lock where it may, and else makes another event
-pub taken_or : (s : State) (t : TaskId) (l : LockId) (other e : Event) (phase : Phase) → IsIn s t phase (calls.Lock l) → TakesIn s t phase
+pub taken_or : (s : State) (t : TaskId) (l : LockId) (other e : Event) → TakesIn s t l → t.0 < length s.threads → l.0 < length s.locks
     → take_or other t l (kind_of (thread_part s t) l) (owner_part s l) (task_part s t) ≡ e
     → IsTake s t l e ⊎ ((can_take t (kind_of (thread_part s t) l) (owner_part s l) (task_part s t) ≡ false) × (e ≡ other))
-taken_or s t l other e phase at queued is = by_test (can_take t (kind_of (thread_part s t) l) (owner_part s l) (task_part s t)) refl is
+taken_or s t l other e how task lock is = by_test (can_take t (kind_of (thread_part s t) l) (owner_part s l) (task_part s t)) refl is
   where
     by_test : (b : Bool) → can_take t (kind_of (thread_part s t) l) (owner_part s l) (task_part s t) ≡ b
         → cond b (take_event t l (kind_of (thread_part s t) l) (owner_part s l) (task_part s t)) other ≡ e → IsTake s t l e ⊎ ((can_take t (kind_of (thread_part s t) l) (owner_part s l) (task_part s t) ≡ false) × (e ≡ other))
-    by_test true can is = inl (record { phase = phase; at = at; queued = queued; can = can; event = sym is })
+    by_test true can is = inl (record { how = how; task = task; lock = lock; can = can; event = sym is })
     by_test false can is = inr (can, sym is)
+
+pub tried : (s : State) (t : TaskId) (l : LockId) (e : Event) → IsIn s t phases.Start (calls.TryLock l) → try_event t l (kind_of (thread_part s t) l) (owner_part s l) (task_part s t) ≡ e → IsAcquire s t l e
+tried s t l e at is = by_owner (owner_part s l).owner (owner_part s l).bit refl refl is
+  where
+    other : Event
+    other = take_or (busy_event t l (owner_part s l)) t l (kind_of (thread_part s t) l) (owner_part s l) (task_part s t)
+
+    either : IsTake s t l e ⊎ ((can_take t (kind_of (thread_part s t) l) (owner_part s l) (task_part s t) ≡ false) × (e ≡ busy_event t l (owner_part s l))) → IsAcquire s t l e
+    either (inl takes) = is_take takes
+    either (inr busy) = is_busy (record { at = at; cannot = busy.0; event = busy.1 })
+
+    or_busy : other ≡ e → IsAcquire s t l e
+    or_busy is = either (taken_or s t l (busy_event t l (owner_part s l)) e (from_trylock at) at.task at.served is)
+
+    by_owner : (owner : Option TaskId) (bit : Bool) → (owner_part s l).owner ≡ owner → (owner_part s l).bit ≡ bit → cond (is_none owner && not bit) (fast_event t l) other ≡ e → IsAcquire s t l e
+    by_owner None false none clear is = is_fast (record { how = by_trylock at; task = at.task; lock = at.served; owner = none; bit = clear; event = sym is })
+    by_owner None true none set is = or_busy is
+    by_owner (Some o) bit some b is = or_busy is
+
+-- ---- the call of a task that gets the lock
+
+-- it is one that waits for this lock, or that tries
+abbrev pub IsAcquireOf : LockId → Call → Type 0
+IsAcquireOf l call = (call ≡ calls.Lock l) ⊎ (call ≡ calls.TryLock l)
+
+-- the task is at such a call
+pub record IsAcquiring (s : State) (t : TaskId) (l : LockId) : Type 0 where
+  pub call : Call
+  pub calling : call_of (thread_part s t) ≡ Some call
+  pub acquires : IsAcquireOf l call
+
+pub fast-acquiring : (s : State) (t : TaskId) (l : LockId) → AcquiresIn s t l → IsAcquiring s t l
+fast-acquiring s t l (by_lock at unheld) = record { call = calls.Lock l; calling = at.calling; acquires = inl refl }
+fast-acquiring s t l (by_trylock at) = record { call = calls.TryLock l; calling = at.calling; acquires = inr refl }
+
+pub take-acquiring : (s : State) (t : TaskId) (l : LockId) → TakesIn s t l → IsAcquiring s t l
+take-acquiring s t l (from_slow at) = record { call = calls.Lock l; calling = at.calling; acquires = inl refl }
+take-acquiring s t l (from_wait at running) = record { call = calls.Lock l; calling = at.calling; acquires = inl refl }
+take-acquiring s t l (from_trylock at) = record { call = calls.TryLock l; calling = at.calling; acquires = inr refl }
+
+-- with the answer got it holds the lock
+pub got-holds : (s : State) (t : TaskId) (l : LockId) → IsAcquiring s t l → holds_after (thread_part s t) (call_of (thread_part s t)) Got ≡ with_hold (thread_part s t) l true
+got-holds s t l is = ap (λ (c : Option Call). holds_after (thread_part s t) c Got) is.calling ∙ by_call is.acquires
+  where
+    by_call : IsAcquireOf l is.call → holds_after (thread_part s t) (Some is.call) Got ≡ with_hold (thread_part s t) l true
+    by_call (inl same) = ap (λ (c : Call). holds_after (thread_part s t) (Some c) Got) same
+    by_call (inr same) = ap (λ (c : Call). holds_after (thread_part s t) (Some c) Got) same
 
 -- ---- what the choice reads
 
@@ -77,3 +142,32 @@ same-acquire a b t l alike = ap (acquire_event t l) (alike.lock l (either (is_no
     either : (c : Bool) → touches (cond c (fast_event t l) (mark_event t l)) (objects.OwnerPart l) ≡ true
     either true = touches-lock (fast_event t l) l refl
     either false = touches-lock (mark_event t l) l refl
+
+-- a call that tries looks at the lock, and at its own task where that decides
+try-lock : (a b : Shared) (t : TaskId) (l : LockId) (kind : Kind) → Alike (try_event t l kind (lock_in a l) (task_in a t)) a b → lock_in b l ≡ lock_in a l
+try-lock a b t l kind alike = alike.lock l (by_tests (is_free (lock_in a l)) (can_take t kind (lock_in a l) (task_in a t)))
+  where
+    by_tests : (free can : Bool) → touches (cond free (fast_event t l) (cond can (take_event t l kind (lock_in a l) (task_in a t)) (busy_event t l (lock_in a l)))) (objects.OwnerPart l) ≡ true
+    by_tests true can = touches-lock (fast_event t l) l refl
+    by_tests false true = touches-lock (take_event t l kind (lock_in a l) (task_in a t)) l refl
+    by_tests false false = touches-lock (busy_event t l (lock_in a l)) l refl
+
+try-task : (t : TaskId) (l : LockId) (kind : Kind) (lock : OwnerPart) (x y : TaskPart) → (touches (try_event t l kind lock x) (objects.Task t) ≡ true → y ≡ x) → try_event t l kind lock y ≡ try_event t l kind lock x
+try-task t l kind lock x y same = by_owner lock.owner lock.bit same
+  where
+    having : Option TaskId → Bool → OwnerPart
+    having owner bit = record lock { owner = owner; bit = bit }
+
+    by_owner : (owner : Option TaskId) (bit : Bool) → (touches (try_event t l kind (having owner bit) x) (objects.Task t) ≡ true → y ≡ x) → try_event t l kind (having owner bit) y ≡ try_event t l kind (having owner bit) x
+    by_owner (Some o) bit same = refl
+    by_owner None false same = refl
+    by_owner None true same = ap (try_event t l kind (having None true)) (same (by_test (can_take t kind (having None true) x)))
+      where
+        by_test : (can : Bool) → touches (cond can (take_event t l kind (having None true) x) (busy_event t l (having None true))) (objects.Task t) ≡ true
+        by_test true = touches-own (take_event t l kind (having None true) x) t refl
+        by_test false = touches-own (busy_event t l (having None true)) t refl
+
+pub same-try : (a b : Shared) (t : TaskId) (l : LockId) (kind : Kind) → Alike (try_event t l kind (lock_in a l) (task_in a t)) a b → try_event t l kind (lock_in b l) (task_in b t) ≡ try_event t l kind (lock_in a l) (task_in a t)
+same-try a b t l kind alike =
+    ap (λ (lock : OwnerPart). try_event t l kind lock (task_in b t)) (try-lock a b t l kind alike)
+    ∙ try-task t l kind (lock_in a l) (task_in a t) (task_in b t) (λ at. alike.task t at)

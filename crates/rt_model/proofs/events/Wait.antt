@@ -16,7 +16,7 @@ use Rattle.rt_model.specs.events.Wait.{wait_event, slow_event, again_event, awak
 use Rattle.rt_model.proofs.Calling.{IsIn}
 use Rattle.rt_model.proofs.Touching.{touches-lock, touches-own, touches-owner}
 use Rattle.rt_model.proofs.Alike.{Alike, GivesAlike, same-task_at}
-use Rattle.rt_model.proofs.events.Acquire.{IsTake, taken_or}
+use Rattle.rt_model.proofs.events.Acquire.{IsTake, from_slow, from_wait, taken_or}
 
 -- ---- how they come about
 
@@ -39,7 +39,7 @@ pub data IsWaiting (s : State) (t : TaskId) (l : LockId) (e : Event) : Type 0 wh
 
 pub slowed : (s : State) (t : TaskId) (l : LockId) (e : Event) → IsIn s t phases.Slow (calls.Lock l)
     → slow_event t l (kind_of (thread_part s t) l) (owner_part s l) (task_part s t) (task_at (shared s) (owner_part s l).owner) ≡ e → IsTake s t l e ⊎ IsWaiting s t l e
-slowed s t l e at is = either (taken_or s t l (wait_event t l (owner_part s l) (task_part s t) (task_at (shared s) (owner_part s l).owner)) e phases.Slow at (inl refl) is)
+slowed s t l e at is = either (taken_or s t l (wait_event t l (owner_part s l) (task_part s t) (task_at (shared s) (owner_part s l).owner)) e (from_slow at) at.task at.served is)
   where
     either : IsTake s t l e ⊎ ((can_take t (kind_of (thread_part s t) l) (owner_part s l) (task_part s t) ≡ false) × (e ≡ wait_event t l (owner_part s l) (task_part s t) (task_at (shared s) (owner_part s l).owner))) → IsTake s t l e ⊎ IsWaiting s t l e
     either (inl takes) = inl takes
@@ -47,7 +47,7 @@ slowed s t l e at is = either (taken_or s t l (wait_event t l (owner_part s l) (
 
 awakened : (s : State) (t : TaskId) (l : LockId) (e : Event) → IsIn s t phases.Wait (calls.Lock l) → (task_part s t).state ≡ states.Running
     → awake_event t l (kind_of (thread_part s t) l) (owner_part s l) (task_part s t) ≡ e → IsTake s t l e ⊎ IsWaiting s t l e
-awakened s t l e at running is = either (taken_or s t l (again_event t l) e phases.Wait at (inr (refl, running)) is)
+awakened s t l e at running is = either (taken_or s t l (again_event t l) e (from_wait at running) at.task at.served is)
   where
     either : IsTake s t l e ⊎ ((can_take t (kind_of (thread_part s t) l) (owner_part s l) (task_part s t) ≡ false) × (e ≡ again_event t l)) → IsTake s t l e ⊎ IsWaiting s t l e
     either (inl takes) = inl takes

@@ -14,7 +14,7 @@
 --    6  The lock has no owner, or the owner isn't blocked: the chain ends, and with it the walk.                  L O
 --    7  The walk is full, and the owner is a task of its path: where the owner's key is old the path is cut       W O
 --       before the owner's link, and the walk goes on there; else it ends. To come back to the walker itself is
---       no other case so far; the test for that stands before this one.
+--       no other case so far, and will be told apart before this step.
 --    8  The walk is short, and the owner's key isn't old: the rest of the chain is right, and the walk ends.      W O
 --    9  Else the owner is the cursor.                                                                             W O
 --

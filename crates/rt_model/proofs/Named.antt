@@ -1,6 +1,8 @@
 -- What a next event names is there.
-use Rattle.std.proofs.Common.{ℕ, ◌<◌, Bool, true, false, cond, List, length, sym, subst, Option, Some, None, IfSome, All}
+use Rattle.std.proofs.Common.{ℕ, ◌<◌, Bool, true, false, cond, not, ◌&&◌, List, length, sym, subst, Option, Some, None, IfSome, All, is_none}
 use Rattle.std.specs.Prelude.{nat_eq, option_map}
+use Rattle.std.proofs.lemmas.Bool.{cond_both}
+use Rattle.std.proofs.lemmas.List.Elements.{All-filter}
 use Rattle.rt_base.specs.declared.call.Call.{Call}
 use Rattle.rt_base.specs.declared.call.Call.TheVariants as calls
 use Rattle.rt_base.specs.declared.id.Cpu.{Cpu}
@@ -8,27 +10,34 @@ use Rattle.rt_base.specs.declared.id.LockId.{LockId}
 use Rattle.rt_base.specs.declared.id.TaskId.{TaskId}
 use Rattle.rt_base.specs.declared.reply.Reply.{Reply}
 use Rattle.rt_model.specs.declared.event.Event.{Event}
+use Rattle.rt_model.specs.declared.phase.Route.{Route}
 use Rattle.rt_model.specs.declared.row.Row.{Row}
 use Rattle.rt_model.specs.Parts.{OwnerPart, TaskPart, effective_of}
-use Rattle.rt_model.specs.Rows.{top_waiter, top_task, task_of}
-use Rattle.rt_model.specs.State.{State, shared, task_at, owner_part, task_part, thread_part}
-use Rattle.rt_model.specs.Choice.{called_lock, boost_of}
+use Rattle.rt_model.specs.Rows.{top_waiter, top_changed, top_task, task_of, is_of, without}
+use Rattle.rt_model.specs.State.{State, owner_part, task_part, thread_part}
+use Rattle.rt_model.specs.Choice.{called_lock, boost_of, boost_at}
 use Rattle.rt_model.specs.Stage.{IsServed}
-use Rattle.rt_model.specs.events.Wait.{owner_boost}
-use Rattle.rt_model.specs.steps.Lock.{queued}
-use Rattle.rt_model.specs.laws.Shape.{IsShaped, IsWithin}
-use Rattle.rt_model.proofs.NextEvents.{IsNext, by_own, by_acquire, by_wait, by_release}
+use Rattle.rt_model.specs.steps.Lock.{requeued}
+use Rattle.rt_model.specs.steps.Chain.{has_old_key, requeued_where_old, newly_top}
+use Rattle.rt_model.specs.laws.Lawful.{IsLawful}
+use Rattle.rt_model.specs.laws.Shape.{IsWithin}
+use Rattle.rt_model.proofs.NextEvents.{IsNext, by_own, by_acquire, by_wait, by_release, by_walk, by_setprio}
 use Rattle.rt_model.proofs.events.Own.{IsOwn}
-use Rattle.rt_model.proofs.events.Acquire.{IsAcquire, is_fast, is_mark, is_take}
+use Rattle.rt_model.proofs.events.Acquire.{IsAcquire, is_fast, is_mark, is_take, is_busy}
 use Rattle.rt_model.proofs.events.Wait.{IsWaiting, is_wait, is_again}
 use Rattle.rt_model.proofs.events.Release.{IsRelease, is_free, is_give}
-use Rattle.rt_model.proofs.Queues.{top-holds}
+use Rattle.rt_model.proofs.events.Walk.{IsWalking, is_walk, is_walkend}
+use Rattle.rt_model.proofs.events.Wakeups.{IsSetPrio}
+use Rattle.rt_model.proofs.Queues.{top-holds, All-insert_row}
+use Rattle.rt_model.proofs.Waiters.{cursor-there, walk-link}
 use Rattle.rt_model.proofs.Within.{owner_within, rows_within}
 
-called_within : (n : ℕ) (cpu : Cpu) (call : Call) → IsServed n call → IfSome (called_lock cpu call) (λ l. l.0 < n)
-called_within n cpu (calls.Lock l) served = served
-called_within n cpu (calls.Unlock l) served = served
-called_within n cpu _ served = absurd served
+called_within : (m n : ℕ) (cpu : Cpu) (call : Call) → IsServed m n call → IfSome (called_lock cpu call) (λ l. l.0 < n)
+called_within m n cpu (calls.Lock l) served = served
+called_within m n cpu (calls.TryLock l) served = served
+called_within m n cpu (calls.Unlock l) served = served
+called_within m n cpu (calls.SetPrio u prio) served = tt
+called_within m n cpu _ served = absurd served
 
 boost_within : (n : ℕ) (t : TaskId) (before after : ℕ) → t.0 < n → IfSome (boost_of t before after) (λ b. b.0.0 < n)
 boost_within n t before after lt = by_test (nat_eq before after)
@@ -37,9 +46,9 @@ boost_within n t before after lt = by_test (nat_eq before after)
     by_test true = tt
     by_test false = lt
 
-owner_boost_within : (n : ℕ) (l : LockId) (lock : OwnerPart) (owner : Option TaskId) (task : TaskPart) → IfSome owner (λ o. o.0 < n) → IfSome (owner_boost l lock owner task) (λ b. b.0.0 < n)
-owner_boost_within n l lock None task lt = tt
-owner_boost_within n l lock (Some o) task lt = boost_within n o _ _ lt
+boost_at_within : (n : ℕ) (t : Option TaskId) (before after : ℕ) → IfSome t (λ u. u.0 < n) → IfSome (boost_at t before after) (λ b. b.0.0 < n)
+boost_at_within n None before after lt = tt
+boost_at_within n (Some t) before after lt = boost_within n t before after lt
 
 pub top_within : (n : ℕ) (rows : List Row) → All (λ (row : Row). row.who < n) rows → IfSome (top_task rows) (λ t. t.0 < n)
 top_within n rows all = by_top (top_waiter rows) (top-holds (λ (row : Row). row.who < n) rows all)
@@ -48,36 +57,69 @@ top_within n rows all = by_top (top_waiter rows) (top-holds (λ (row : Row). row
     by_top None is = tt
     by_top (Some row) is = is
 
+-- the rows of a lock at which a task may have been queued anew
+requeued_within : (n : ℕ) (u : TaskId) (task : TaskPart) (lock : OwnerPart) → u.0 < n → All (λ (row : Row). row.who < n) lock.rows → All (λ (row : Row). row.who < n) (requeued_where_old (Some u) task lock).rows
+requeued_within n u task lock lt all =
+    cond_both (has_old_key task) (requeued u (effective_of task) lock) lock (λ (x : OwnerPart). All (λ (row : Row). row.who < n) x.rows)
+    (λ is. All-insert_row (λ (row : Row). row.who < n) (record { key = effective_of task; ticket = lock.ticket; who = u.0 }) (without u lock.rows) lt (All-filter (λ row. not (is_of u row)) (λ (row : Row). row.who < n) lock.rows all))
+    (λ is. all)
+
+newly_top_within : (n : ℕ) (before after : OwnerPart) → All (λ (row : Row). row.who < n) after.rows → IfSome (newly_top before after) (λ t. t.0 < n)
+newly_top_within n before after all =
+    cond_both (is_none after.owner && top_changed before.rows after.rows) (top_task after.rows) None (λ (o : Option TaskId). IfSome o (λ t. t.0 < n)) (λ is. top_within n after.rows all) (λ is. tt)
+
 -- ---- by families
 
-module _ (s : State) (t : TaskId) (e : Event) (shaped : IsShaped s) where
+module _ (s : State) (made : ℕ) (t : TaskId) (e : Event) (lawful : IsLawful s made) where
   abbrev Within : Event → Type 0
   Within x = IsWithin (length s.threads) (length s.locks) x
 
   of_own : (call : Call) (answer : Reply) → IsOwn s t call answer e → Within e
-  of_own call answer is = subst Within (sym is.event) (record { task = is.at.task; lock = called_within (length s.locks) (thread_part s t).cpu call is.at.served; owner = tt; woken = tt; boost = tt })
+  of_own call answer is =
+      let lock = called_within (length s.threads) (length s.locks) (thread_part s t).cpu call is.at.served in
+      subst Within (sym is.event) (record { task = is.at.task; lock = lock; other = tt; owner = tt; woken = tt; boost = tt })
 
   of_acquire : (l : LockId) → IsAcquire s t l e → Within e
-  of_acquire l (is_fast is) = subst Within (sym is.event) (record { task = is.at.task; lock = is.at.served; owner = tt; woken = tt; boost = tt })
-  of_acquire l (is_mark is) = subst Within (sym is.event) (record { task = is.at.task; lock = is.at.served; owner = tt; woken = tt; boost = tt })
-  of_acquire l (is_take is) = subst Within (sym is.event) (record { task = is.at.task; lock = is.at.served; owner = tt; woken = tt; boost = boost_within (length s.threads) t _ _ is.at.task })
+  of_acquire l (is_fast is) = subst Within (sym is.event) (record { task = is.task; lock = is.lock; other = tt; owner = tt; woken = tt; boost = tt })
+  of_acquire l (is_mark is) = subst Within (sym is.event) (record { task = is.at.task; lock = is.at.served; other = tt; owner = tt; woken = tt; boost = tt })
+  of_acquire l (is_take is) = subst Within (sym is.event) (record { task = is.task; lock = is.lock; other = tt; owner = tt; woken = tt; boost = boost_within (length s.threads) t _ _ is.task })
+  of_acquire l (is_busy is) = subst Within (sym is.event) (record { task = is.at.task; lock = is.at.served; other = tt; owner = owner_within s l lawful.shape is.at.served; woken = tt; boost = tt })
 
   of_wait : (l : LockId) → IsWaiting s t l e → Within e
   of_wait l (is_wait is) =
-      let owner = owner_within s l shaped is.at.served in
-      let boost = owner_boost_within (length s.threads) l (queued t (effective_of (task_part s t)) (owner_part s l)) (owner_part s l).owner (task_at (shared s) (owner_part s l).owner) owner in
-      subst Within (sym is.event) (record { task = is.at.task; lock = is.at.served; owner = owner; woken = tt; boost = boost })
-  of_wait l (is_again is) = subst Within (sym is.event) (record { task = is.at.task; lock = is.at.served; owner = tt; woken = tt; boost = tt })
+      let owner = owner_within s l lawful.shape is.at.served in
+      subst Within (sym is.event) (record { task = is.at.task; lock = is.at.served; other = tt; owner = owner; woken = tt; boost = boost_at_within (length s.threads) (owner_part s l).owner _ _ owner })
+  of_wait l (is_again is) = subst Within (sym is.event) (record { task = is.at.task; lock = is.at.served; other = tt; owner = tt; woken = tt; boost = tt })
 
   of_release : (l : LockId) → IsRelease s t l e → Within e
-  of_release l (is_free is) = subst Within (sym is.event) (record { task = is.at.task; lock = is.at.served; owner = tt; woken = tt; boost = tt })
+  of_release l (is_free is) = subst Within (sym is.event) (record { task = is.at.task; lock = is.at.served; other = tt; owner = tt; woken = tt; boost = tt })
   of_release l (is_give is) =
-      let woken = top_within (length s.threads) (owner_part s l).rows (rows_within s l shaped is.at.served) in
-      subst Within (sym is.event) (record { task = is.at.task; lock = is.at.served; owner = tt; woken = woken; boost = boost_within (length s.threads) t _ _ is.at.task })
+      let woken = top_within (length s.threads) (owner_part s l).rows (rows_within s l lawful.shape is.at.served) in
+      subst Within (sym is.event) (record { task = is.at.task; lock = is.at.served; other = tt; owner = tt; woken = woken; boost = boost_within (length s.threads) t _ _ is.at.task })
+
+  of_walk : (route : Route) (u : TaskId) → IsWalking s t route u e → Within e
+  of_walk route u (is_walk l key is) =
+      let link = walk-link s made t route u l key e lawful is in
+      let owner = owner_within s l lawful.shape link.lock in
+      let rows = requeued_within (length s.threads) u (task_part s u) (owner_part s l) link.cursor (rows_within s l lawful.shape link.lock) in
+      subst Within (sym is.event) (record {
+        task = is.task;
+        lock = link.lock;
+        other = link.cursor;
+        owner = owner;
+        woken = newly_top_within (length s.threads) (owner_part s l) (requeued_where_old (Some u) (task_part s u) (owner_part s l)) rows;
+        boost = boost_at_within (length s.threads) (owner_part s l).owner _ _ owner;
+      })
+  of_walk route u (is_walkend is) = subst Within (sym is.event) (record { task = is.task; lock = tt; other = cursor-there s made t route u lawful is.how; owner = tt; woken = tt; boost = tt })
+
+  of_setprio : (u : TaskId) (prio : ℕ) → IsSetPrio s t u prio e → Within e
+  of_setprio u prio is = subst Within (sym is.event) (record { task = is.at.task; lock = tt; other = is.at.served.0; owner = tt; woken = tt; boost = boost_within (length s.threads) u _ _ is.at.served.0 })
 
 -- what a next event names is there
-pub within : (s : State) (t : TaskId) (e : Event) → IsShaped s → IsNext s t e → IsWithin (length s.threads) (length s.locks) e
-within s t e shaped (by_own call answer is) = of_own s t e shaped call answer is
-within s t e shaped (by_acquire l is) = of_acquire s t e shaped l is
-within s t e shaped (by_wait l is) = of_wait s t e shaped l is
-within s t e shaped (by_release l is) = of_release s t e shaped l is
+pub within : (s : State) (made : ℕ) (t : TaskId) (e : Event) → IsLawful s made → IsNext s t e → IsWithin (length s.threads) (length s.locks) e
+within s made t e lawful (by_own call answer is) = of_own s made t e lawful call answer is
+within s made t e lawful (by_acquire l is) = of_acquire s made t e lawful l is
+within s made t e lawful (by_wait l is) = of_wait s made t e lawful l is
+within s made t e lawful (by_release l is) = of_release s made t e lawful l is
+within s made t e lawful (by_walk route u is) = of_walk s made t e lawful route u is
+within s made t e lawful (by_setprio u prio is) = of_setprio s made t e lawful u prio is

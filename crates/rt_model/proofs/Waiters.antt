@@ -1,25 +1,29 @@
 -- What a lawful state says of a task in a phase.
-use Rattle.std.proofs.Common.{◌≡◌, ℕ, ◌<◌, true, false, cond, length, refl, sym, ap, ◌∙◌, subst, Option, Some, None, IfSome, arith, Bool}
-use Rattle.std.specs.Prelude.{nat_eq, option_map, option_and_then, is_some}
+use Rattle.std.proofs.Common.{◌≡◌, ℕ, ◌<◌, true, false, cond, List, length, refl, sym, ap, ◌∙◌, subst, Option, Some, None, IfSome}
+use Rattle.std.specs.Prelude.{nat_eq, option_map, option_and_then}
 use Rattle.rt_base.specs.declared.call.Call.{Call}
 use Rattle.rt_base.specs.declared.call.Call.TheVariants as calls
 use Rattle.rt_base.specs.declared.id.LockId.{LockId}
 use Rattle.rt_base.specs.declared.id.TaskId.{TaskId}
+use Rattle.rt_model.specs.declared.event.Event.{Event}
 use Rattle.rt_model.specs.declared.phase.Phase.{Phase}
 use Rattle.rt_model.specs.declared.phase.Phase.TheVariants as phases
+use Rattle.rt_model.specs.declared.phase.Route.{Route}
+use Rattle.rt_model.specs.declared.phase.Route.TheVariants.{Full, Short}
 use Rattle.rt_model.specs.Parts.{ThreadPart, call_of}
 use Rattle.rt_model.specs.Rows.{queued_key}
-use Rattle.rt_model.specs.State.{State, shared, task_at, owner_part, task_part, thread_part}
+use Rattle.rt_model.specs.State.{State, owner_part, task_part, thread_part}
 use Rattle.rt_model.specs.Choice.{called_lock}
 use Rattle.rt_model.specs.Stage.{IsPhaseOf, IsStaged}
 use Rattle.rt_model.specs.laws.Lawful.{IsLawful}
-use Rattle.rt_model.specs.laws.Queued.{awaited_in, asked_in, QueuedLaw}
+use Rattle.rt_model.specs.laws.Queued.{present_lock, awaited_in, asked_in, QueuedLaw}
 use Rattle.rt_model.specs.laws.Rows.{key_at}
 use Rattle.rt_model.specs.laws.Owners.{owned_by}
 use Rattle.rt_model.specs.laws.Phases.{PhasesLaw}
-use Rattle.rt_model.specs.events.Wait.{phase_after_wait}
+use Rattle.rt_model.specs.laws.Walks.{IsFullWalk, IsWalkOf}
 use Rattle.rt_model.proofs.Calling.{IsIn, served_call}
-use Rattle.rt_model.proofs.Numbers.{number_itself}
+use Rattle.rt_model.proofs.events.Acquire.{TakesIn, from_slow, from_wait, from_trylock}
+use Rattle.rt_model.proofs.events.Walk.{WalksIn, by_full, by_short, IsWalk}
 
 -- the lock on which a task is blocked
 abbrev pub blocking : Option (LockId × ℕ) → Option LockId
@@ -65,22 +69,37 @@ module _ (s : State) (made : ℕ) (t : TaskId) (lawful : IsLawful s made) where
       (subst (λ (c : Option Call). IfSome (asked_in (thread_part s t).phase (option_and_then (called_lock (thread_part s t).cpu) c)) (λ k. owned_by (owner_part s k).owner t ≡ false)) at.calling
       (lawful.queued.asking t))
 
+  -- a task that takes a lock is blocked on no other
+  pub take-elsewhere : (l m : LockId) → TakesIn s t l → nat_eq l.0 m.0 ≡ false → key_at (task_part s t).blocked m ≡ None
+  take-elsewhere l m (from_slow at) ne = slow-nowhere m (calls.Lock l) at
+  take-elsewhere l m (from_wait at running) ne = wait-elsewhere l m at ne
+  take-elsewhere l m (from_trylock at) ne = ap (λ (b : Option (LockId × ℕ)). key_at b m) (start-blocked (calls.TryLock l) at)
+
 -- ---- who is blocked, and on what
+
+-- the phases in which a task is queued: it waits, or its own full walk is under way
+pub data QueuedIn (phase : Phase) : Type 0 where
+  in_wait : phase ≡ phases.Wait → QueuedIn phase
+  in_walk : (cursor : TaskId) (path : List (ℕ × ℕ)) → phase ≡ phases.Walk cursor (Full path) → QueuedIn phase
 
 -- the thread waits in a call of this lock, which is there
 pub record WaitsFor (s : State) (u : TaskId) (l : LockId) : Type 0 where
-  pub phase : (thread_part s u).phase ≡ phases.Wait
+  pub phase : QueuedIn (thread_part s u).phase
   pub call : call_of (thread_part s u) ≡ Some (calls.Lock l)
   pub lock : l.0 < length s.locks
 
 -- the phase and the call in which a lock is awaited
 awaits : (thread : ThreadPart) (l : LockId) (phase : Phase) (call : Option Call) → IsPhaseOf phase call → Some l ≡ awaited_in phase (option_and_then (called_lock thread.cpu) call)
-    → (phase ≡ phases.Wait) × (call ≡ Some (calls.Lock l))
+    → QueuedIn phase × (call ≡ Some (calls.Lock l))
 awaits thread l phases.Start call fits is = cc
 awaits thread l phases.Slow call fits is = cc
-awaits thread l phases.Wait (Some (calls.Lock m)) fits is = let same : l ≡ m = cc in (refl, ap (λ (n : LockId). Some (calls.Lock n)) (sym same))
+awaits thread l phases.Wait (Some (calls.Lock m)) fits is = let same : l ≡ m = cc in (in_wait refl, ap (λ (n : LockId). Some (calls.Lock n)) (sym same))
 awaits thread l phases.Wait (Some _) fits is = absurd fits
 awaits thread l phases.Wait None fits is = absurd fits
+awaits thread l (phases.Walk cursor (Full path)) (Some (calls.Lock m)) fits is = let same : l ≡ m = cc in (in_walk cursor path refl, ap (λ (n : LockId). Some (calls.Lock n)) (sym same))
+awaits thread l (phases.Walk cursor (Full path)) (Some _) fits is = absurd fits
+awaits thread l (phases.Walk cursor (Full path)) None fits is = absurd fits
+awaits thread l (phases.Walk cursor (Short answer)) call fits is = cc
 awaits thread l _ call fits is = absurd fits
 
 -- a blocked task waits for the lock on which it is blocked
@@ -89,37 +108,40 @@ WaitsFor-blocked s u at staged phased queued is =
     let both = awaits (thread_part s u) at.0 (thread_part s u).phase (call_of (thread_part s u)) (phased u) (sym (ap blocking is) ∙ queued.blocked u) in
     record { phase = both.0; call = both.1; lock = served_call s u (calls.Lock at.0) staged both.1 }
 
--- two locks of a state with one lock at most are one
-pub one_lock : (s : State) (l m : LockId) → IsStaged s → l.0 < length s.locks → m.0 < length s.locks → l ≡ m
-one_lock s l m staged first second =
-    let same : l.0 ≡ m.0 = omega (arith, staged.one_lock) in
-    λ i. record { 0 = same i }
+-- and doesn't own that lock
+pub blocked-unowned : (s : State) (u : TaskId) (at : LockId × ℕ) → QueuedLaw s → (task_part s u).blocked ≡ Some at → owned_by (owner_part s at.0).owner u ≡ false
+blocked-unowned s u at queued is = subst (λ (b : Option (LockId × ℕ)). IfSome b (λ a. owned_by (owner_part s a.0).owner u ≡ false)) is (queued.waiting u)
 
--- the owner of the one lock is blocked on none
-pub owner-unblocked : (s : State) (made : ℕ) (t : TaskId) (l : LockId) → IsLawful s made → l.0 < length s.locks → owned_by (owner_part s l).owner t ≡ true → (task_part s t).blocked ≡ None
-owner-unblocked s made t l lawful lt owns = by_blocked (task_part s t).blocked refl
-  where
-    by_blocked : (b : Option (LockId × ℕ)) → (task_part s t).blocked ≡ b → b ≡ None
-    by_blocked None is = refl
-    by_blocked (Some at) is =
-        let waits = WaitsFor-blocked s t at lawful.stage lawful.phases lawful.queued is in
-        let not_its : owned_by (owner_part s at.0).owner t ≡ false =
-        subst (λ (b : Option (LockId × ℕ)). IfSome b (λ a. owned_by (owner_part s a.0).owner t ≡ false)) is (lawful.queued.waiting t) in
-        let not_here : owned_by (owner_part s l).owner t ≡ false = subst (λ (m : LockId). owned_by (owner_part s m).owner t ≡ false) (one_lock s at.0 l lawful.stage waits.lock lt) not_its in
-        absurd cc
+-- ---- walks
 
-pub owner_runs : (s : State) (made : ℕ) (l : LockId) → IsLawful s made → l.0 < length s.locks → is_some (task_at (shared s) (owner_part s l).owner).blocked ≡ false
-owner_runs s made l lawful lt = by_owner (owner_part s l).owner refl
-  where
-    by_owner : (owner : Option TaskId) → (owner_part s l).owner ≡ owner → is_some (task_at (shared s) owner).blocked ≡ false
-    by_owner None is = refl
-    by_owner (Some o) is = ap is_some (owner-unblocked s made o l lawful lt (ap (λ (p : Option TaskId). owned_by p o) is ∙ number_itself o.0))
+-- the phase of a walk
+pub walk-phase : (s : State) (t : TaskId) (route : Route) (u : TaskId) → WalksIn s t route u → (thread_part s t).phase ≡ phases.Walk u route
+walk-phase s t route u (by_full path l same at) = at.phased
+walk-phase s t route u (by_short v prio same at) = at.phased
 
--- so whoever is queued after it waits
-pub phase_after_wait-Wait : (t : TaskId) (l : Option LockId) (owner : Option TaskId) (b : Bool) → b ≡ false → phase_after_wait t l owner b ≡ phases.Wait
-phase_after_wait-Wait t l owner b is = ap (λ (c : Bool). phase_after_wait t l owner c) is ∙ waits l owner
+-- its cursor is there
+pub cursor-there : (s : State) (made : ℕ) (t : TaskId) (route : Route) (u : TaskId) → IsLawful s made → WalksIn s t route u → u.0 < length s.threads
+cursor-there s made t route u lawful how = of_route route (subst (IsWalkOf (length s.threads) t (present_lock (thread_part s t))) (walk-phase s t route u how) (lawful.walks t))
   where
-    waits : (l : Option LockId) (owner : Option TaskId) → phase_after_wait t l owner false ≡ phases.Wait
-    waits None owner = refl
-    waits (Some l) None = refl
-    waits (Some l) (Some o) = refl
+    of_route : (r : Route) → IsWalkOf (length s.threads) t (present_lock (thread_part s t)) (phases.Walk u r) → u.0 < length s.threads
+    of_route (Full path) is = is.0
+    of_route (Short answer) is = is
+
+-- and a full one has such a path
+pub full-walk : (s : State) (made : ℕ) (t : TaskId) (u : TaskId) (path : List (ℕ × ℕ)) (l : LockId) → IsLawful s made → IsIn s t (phases.Walk u (Full path)) (calls.Lock l) → IsFullWalk (length s.threads) t (Some l) u path
+full-walk s made t u path l lawful at =
+    subst (λ (c : Option Call). IsFullWalk (length s.threads) t (option_and_then (called_lock (thread_part s t).cpu) c) u path) at.calling
+    (subst (IsWalkOf (length s.threads) t (present_lock (thread_part s t))) at.phased (lawful.walks t)).1
+
+-- what a link finds: the cursor and the lock are there, and the cursor doesn't own that lock
+pub record IsLink (s : State) (u : TaskId) (l : LockId) : Type 0 where
+  pub cursor : u.0 < length s.threads
+  pub lock : l.0 < length s.locks
+  pub unowned : owned_by (owner_part s l).owner u ≡ false
+
+pub walk-link : (s : State) (made : ℕ) (t : TaskId) (route : Route) (u : TaskId) (l : LockId) (key : ℕ) (e : Event) → IsLawful s made → IsWalk s t route u l key e → IsLink s u l
+walk-link s made t route u l key e lawful is = record {
+  cursor = cursor-there s made t route u lawful is.how;
+  lock = (WaitsFor-blocked s u (l, key) lawful.stage lawful.phases lawful.queued is.blocked).lock;
+  unowned = blocked-unowned s u (l, key) lawful.queued is.blocked;
+}

@@ -1,12 +1,16 @@
 -- What the named steps leave of a task.
-use Rattle.std.proofs.Common.{◌≡◌, ℕ, Bool, true, false, cond, refl, ap, ◌∙◌, Option, Some, None, List, length, length-set}
-use Rattle.std.specs.Prelude.{is_some}
-use Rattle.std.proofs.lemmas.Bool.{cond_both}
+use Rattle.std.proofs.Common.{◌≡◌, ℕ, Bool, true, false, cond, not, refl, sym, ap, ◌∙◌, Option, Some, None, List, length, length-set}
+use Rattle.std.specs.Prelude.{is_some, option_map, nat_eq}
+use Rattle.std.proofs.lemmas.Bool.{cond_both, not-false}
 use Rattle.rt_base.specs.declared.id.LockId.{LockId}
 use Rattle.rt_base.specs.declared.state.TaskState.{TaskState}
 use Rattle.rt_base.specs.declared.state.TaskState.TheVariants as states
 use Rattle.rt_model.specs.Parts.{TaskPart, least, keys_in, effective_of}
-use Rattle.rt_model.specs.steps.Task.{saved_for, blocked_on, restored, leave_queue, woken_up, lock_woken, sleeps, with_top}
+use Rattle.rt_model.specs.declared.row.Row.{Row}
+use Rattle.rt_model.specs.Rows.{top_key, top_changed}
+use Rattle.rt_model.specs.steps.Task.{saved_for, blocked_on, restored, leave_queue, woken_up, lock_woken, sleeps, with_top, refreshed}
+use Rattle.rt_model.specs.steps.Chain.{is_old, has_old_key, rekeyed, refreshed_where_changed}
+use Rattle.rt_model.proofs.Numbers.{same_number}
 
 -- a task with the own priority and the kept tops of another
 pub record IsLike (task other : TaskPart) : Type 0 where
@@ -72,3 +76,35 @@ with_top-blocked (Some l) top task = refl
 pub length-with_top : (l : Option LockId) (top : Option ℕ) (task : TaskPart) → length (with_top l top task).kept ≡ length task.kept
 length-with_top None top task = refl
 length-with_top (Some l) top task = simp length-set
+
+-- ---- along a chain
+
+-- a task with its effective priority as its key is blocked on the same lock
+pub rekeyed-like : (task : TaskPart) → IsLike task (rekeyed task)
+rekeyed-like task = record { own = refl; kept = refl }
+
+pub rekeyed-at : (task : TaskPart) (l : LockId) (key : ℕ) → task.blocked ≡ Some (l, key) → (rekeyed task).blocked ≡ Some (l, effective_of task)
+rekeyed-at task l key is = ap (λ (b : Option (LockId × ℕ)). option_map (λ (at : LockId × ℕ). (at.0, effective_of task)) b) is
+
+pub rekeyed-blocking : (task : TaskPart) → option_map (λ (at : LockId × ℕ). at.0) (rekeyed task).blocked ≡ option_map (λ (at : LockId × ℕ). at.0) task.blocked
+rekeyed-blocking task = by_blocked task.blocked
+  where
+    by_blocked : (b : Option (LockId × ℕ)) → option_map (λ (at : LockId × ℕ). at.0) (option_map (λ (at : LockId × ℕ). (at.0, effective_of task)) b) ≡ option_map (λ (at : LockId × ℕ). at.0) b
+    by_blocked None = refl
+    by_blocked (Some at) = refl
+
+-- the key of a task whose key isn't old
+pub right_key : (task : TaskPart) (l : LockId) (key : ℕ) → task.blocked ≡ Some (l, key) → has_old_key task ≡ false → key ≡ effective_of task
+right_key task l key is right =
+    let same : is_old task.blocked (effective_of task) ≡ not (nat_eq key (effective_of task)) = ap (λ (b : Option (LockId × ℕ)). is_old b (effective_of task)) is in
+    same_number key (effective_of task) (not-false (nat_eq key (effective_of task)) (sym same ∙ right))
+
+-- what holds of a task, refreshed or not
+pub where_changed : (P : TaskPart → Type 0) (l : Option LockId) (before after : List Row) (task : TaskPart) → P task → P (refreshed l after task) → P (refreshed_where_changed l before after task)
+where_changed P l before after task was then = cond_both (top_changed before after) (refreshed l after task) task P (λ is. then) (λ is. was)
+
+pub where_changed-blocked : (l : Option LockId) (before after : List Row) (task : TaskPart) → (refreshed_where_changed l before after task).blocked ≡ task.blocked
+where_changed-blocked l before after task = where_changed (λ (x : TaskPart). x.blocked ≡ task.blocked) l before after task refl (with_top-blocked l (top_key after) task)
+
+pub length-where_changed : (l : Option LockId) (before after : List Row) (task : TaskPart) → length (refreshed_where_changed l before after task).kept ≡ length task.kept
+length-where_changed l before after task = where_changed (λ (x : TaskPart). length x.kept ≡ length task.kept) l before after task refl (length-with_top l (top_key after) task)

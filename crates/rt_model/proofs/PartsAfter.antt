@@ -10,7 +10,7 @@ use Rattle.rt_model.specs.declared.event_kind.EventKind.{EventKind}
 use Rattle.rt_model.specs.declared.event_kind.EventKind.TheVariants as kinds
 use Rattle.rt_model.specs.Parts.{OwnerPart, TaskPart, ThreadPart}
 use Rattle.rt_model.specs.State.{State, shared, free_lock, no_task, owner_part, task_part, thread_part}
-use Rattle.rt_model.specs.Effect.{Around, Effect, around}
+use Rattle.rt_model.specs.Effect.{Touched, Around, Effect, around}
 use Rattle.rt_model.specs.Rules.{touched, effect}
 use Rattle.rt_model.specs.laws.Owners.{owned_by}
 use Rattle.rt_model.specs.StateAfter.{update, at_lock, at_task, effect_in, lock_left, thread_after, state_after}
@@ -214,3 +214,83 @@ owner-made P mid s e x u is lt was own mine others other woken =
     subst (λ (y : Event). P (task_part (state_after s y) u)) (sym is)
     (slot-keeps P _ named.woken u (f.woken lock) (slot-keeps P _ named.other u (f.other lock)
     (slot-left P first named.owner u (f.owner lock) (subst (λ (n : ℕ). IfSome named.owner (λ v. v.0 < n)) (sym long) lt) (mine _ at_mid) (others _ at_mid)) other) woken)
+
+-- ---- what the slots leave of one task, one after another
+
+-- each slot after that of the event's own task names task u, or another
+pub record SlotsLeave (first second third P : TaskPart → Type 0) (named : Touched) (f : Effect) (lock : OwnerPart) (u : TaskId) : Type 0 where
+  pub owner : (task : TaskPart) → first task → owned_by named.owner u ≡ true → second (f.owner lock task)
+  pub not_owner : (task : TaskPart) → first task → owned_by named.owner u ≡ false → second task
+  pub other : (task : TaskPart) → second task → owned_by named.other u ≡ true → third (f.other lock task)
+  pub not_other : (task : TaskPart) → second task → owned_by named.other u ≡ false → third task
+  pub woken : (task : TaskPart) → third task → owned_by named.woken u ≡ true → P (f.woken lock task)
+  pub not_woken : (task : TaskPart) → third task → owned_by named.woken u ≡ false → P task
+
+-- the tasks that the slots name are there
+pub record SlotsThere (named : Touched) (tasks : ℕ) : Type 0 where
+  pub owner : IfSome named.owner (λ v. v.0 < tasks)
+  pub other : IfSome named.other (λ v. v.0 < tasks)
+  pub woken : IfSome named.woken (λ v. v.0 < tasks)
+
+pub slots-made : (first second third P : TaskPart → Type 0) (s : State) (e x : Event) (u : TaskId) → e ≡ x → SlotsThere (touched x.kind x) (length s.tasks) → first (task_part s u)
+    → ((task : TaskPart) → first task → first ((effect_in (shared s) (thread_part s x.task) x).own (lock_left (shared s) (thread_part s x.task) x) task))
+    → SlotsLeave first second third P (touched x.kind x) (effect_in (shared s) (thread_part s x.task) x) (lock_left (shared s) (thread_part s x.task) x) u → P (task_part (state_after s e) u)
+slots-made first second third P s e x u is there was own leave =
+    subst (λ (y : Event). P (task_part (state_after s y) u)) (sym is)
+    (slot-left P others named.woken u (f.woken lock) (subst (λ (n : ℕ). IfSome named.woken (λ v. v.0 < n)) (sym (long_others ∙ (long_owners ∙ long_own))) there.woken)
+    (leave.woken _ at_other) (leave.not_woken _ at_other))
+  where
+    f : Effect
+    f = effect_in (shared s) (thread_part s x.task) x
+
+    lock : OwnerPart
+    lock = lock_left (shared s) (thread_part s x.task) x
+
+    named : Touched
+    named = touched x.kind x
+
+    own_left : List TaskPart
+    own_left = at_task s.tasks named.own (f.own lock)
+
+    owners : List TaskPart
+    owners = at_task own_left named.owner (f.owner lock)
+
+    others : List TaskPart
+    others = at_task owners named.other (f.other lock)
+
+    long_own : length own_left ≡ length s.tasks
+    long_own = length-at_task s.tasks named.own (f.own lock)
+
+    long_owners : length owners ≡ length own_left
+    long_owners = length-at_task own_left named.owner (f.owner lock)
+
+    long_others : length others ≡ length owners
+    long_others = length-at_task owners named.other (f.other lock)
+
+    at_own : first (unwrap_or (slice_get own_left u.0) no_task)
+    at_own = slot-keeps first s.tasks named.own u (f.own lock) was own
+
+    at_owner : second (unwrap_or (slice_get owners u.0) no_task)
+    at_owner =
+        slot-left second own_left named.owner u (f.owner lock) (subst (λ (n : ℕ). IfSome named.owner (λ v. v.0 < n)) (sym long_own) there.owner) (leave.owner _ at_own) (leave.not_owner _ at_own)
+
+    at_other : third (unwrap_or (slice_get others u.0) no_task)
+    at_other =
+        slot-left third owners named.other u (f.other lock) (subst (λ (n : ℕ). IfSome named.other (λ v. v.0 < n)) (sym (long_owners ∙ long_own)) there.other) (leave.other _ at_owner) (leave.not_other _ at_owner)
+
+-- another task than these changes after the lock's owner
+pub other-made : (P mid : TaskPart → Type 0) (s : State) (e x : Event) (u : TaskId) → e ≡ x → SlotsThere (touched x.kind x) (length s.tasks) → mid (task_part s u)
+    → ((task : TaskPart) → mid task → mid ((effect_in (shared s) (thread_part s x.task) x).own (lock_left (shared s) (thread_part s x.task) x) task))
+    → ((task : TaskPart) → mid task → mid ((effect_in (shared s) (thread_part s x.task) x).owner (lock_left (shared s) (thread_part s x.task) x) task))
+    → ((task : TaskPart) → mid task → owned_by (touched x.kind x).other u ≡ true → P ((effect_in (shared s) (thread_part s x.task) x).other (lock_left (shared s) (thread_part s x.task) x) task))
+    → ((task : TaskPart) → mid task → owned_by (touched x.kind x).other u ≡ false → P task)
+    → ((task : TaskPart) → P task → P ((effect_in (shared s) (thread_part s x.task) x).woken (lock_left (shared s) (thread_part s x.task) x) task)) → P (task_part (state_after s e) u)
+other-made P mid s e x u is there was own owner mine others woken =
+    slots-made mid mid P P s e x u is there was own (record {
+      owner = λ task m its. owner task m;
+      not_owner = λ task m its. m;
+      other = mine;
+      not_other = others;
+      woken = λ task m its. woken task m;
+      not_woken = λ task m its. m;
+    })

@@ -14,6 +14,7 @@ use Rattle.rt_model.specs.Rows.{top_key}
 use Rattle.rt_model.specs.steps.Task.{with_top, restored, leave_queue, sleeps, lock_state_woken, lock_woken}
 use Rattle.rt_model.specs.Effect.{Around}
 use Rattle.rt_model.specs.Rules.{effect}
+use Rattle.rt_model.proofs.CellStepLemmas.{where_changed}
 use Rattle.rt_model.proofs.PartsAfter.{OthersKeep}
 
 -- the state is as P says, and none is saved
@@ -68,4 +69,10 @@ module _ (P : TaskState → Type 0) (runs : P states.Running) where
   pub state-others : (kind : EventKind) (e : Event) (th : ThreadPart) (found : Around) (lock : OwnerPart) → OthersKeep (HasState P) (effect kind e th found) lock
   state-others kinds.Wait e th found lock = record { owner = state-with_top e.lock (top_key lock.rows); other = λ task was. was; woken = λ task was. was }
   state-others kinds.Give e th found lock = record { owner = λ task was. was; other = λ task was. was; woken = state-lock_woken (spins (kind_named th e.lock)) }
+  state-others kinds.Walk e th found lock = record {
+    owner = λ task was. where_changed (HasState P) e.lock found.lock.rows lock.rows task was (state-with_top e.lock (top_key lock.rows) task was);
+    other = λ task was. record { state = was.state; saved = was.saved };
+    woken = state-lock_woken (spins (kind_named th e.lock));
+  }
+  state-others kinds.SetPrio e th found lock = record { owner = λ task was. was; other = λ task was. record { state = was.state; saved = was.saved }; woken = λ task was. was }
   state-others _ e th found lock = record { owner = λ task was. was; other = λ task was. was; woken = λ task was. was }

@@ -20,6 +20,8 @@ pub mod Local
 pub mod Within
 pub mod Waiters
 pub mod Named
+-- what a link of a walk leaves, a walk's end, and a setprio
+pub mod Links
 -- the laws, one a file, and that a next event keeps all of them
 pub mod laws
 pub mod Lawful

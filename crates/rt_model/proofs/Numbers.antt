@@ -16,6 +16,9 @@ other_number i j is same = grind (arith, nat_tests)
 pub number_itself : (i : ℕ) → nat_eq i i ≡ true
 number_itself i = grind (arith, nat_tests)
 
+pub other_way : (t u : TaskId) → nat_eq u.0 t.0 ≡ false → nat_eq t.0 u.0 ≡ false
+other_way t u is = grind (arith, nat_tests)
+
 -- and so are two tasks or locks
 pub same_task : (t u : TaskId) → nat_eq t.0 u.0 ≡ true → t ≡ u
 same_task t u is = ap (λ (n : ℕ). record { 0 = n }) (same_number t.0 u.0 is)

@@ -14,7 +14,8 @@ mod wait;
 
 use crate::next::acquire::acquire_event;
 pub use crate::next::event::boost_within;
-use crate::next::own::{own_answer, own_event};
+use crate::next::own::own_event;
+pub use crate::next::own::own_answer;
 use crate::next::release::release_event;
 use crate::next::wait::{queued_event, slow_event};
 use crate::shared::Shared;

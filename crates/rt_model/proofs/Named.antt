@@ -55,25 +55,25 @@ module _ (s : State) (t : TaskId) (e : Event) (shaped : IsShaped s) where
   Within x = IsWithin (length s.threads) (length s.locks) x
 
   of_own : (call : Call) (answer : Reply) → IsOwn s t call answer e → Within e
-  of_own call answer is = subst Within (sym is.event) (record { task = is.at.task; lock = called_within (length s.locks) (thread_part s t).cpu call is.at.served; owner = tt; woken = tt; boost = tt })
+  of_own call answer is = subst Within (sym is.event) (record { task = is.at.task; lock = called_within (length s.locks) (thread_part s t).cpu call is.at.served; other = tt; owner = tt; woken = tt; boost = tt })
 
   of_acquire : (l : LockId) → IsAcquire s t l e → Within e
-  of_acquire l (is_fast is) = subst Within (sym is.event) (record { task = is.at.task; lock = is.at.served; owner = tt; woken = tt; boost = tt })
-  of_acquire l (is_mark is) = subst Within (sym is.event) (record { task = is.at.task; lock = is.at.served; owner = tt; woken = tt; boost = tt })
-  of_acquire l (is_take is) = subst Within (sym is.event) (record { task = is.at.task; lock = is.at.served; owner = tt; woken = tt; boost = boost_within (length s.threads) t _ _ is.at.task })
+  of_acquire l (is_fast is) = subst Within (sym is.event) (record { task = is.at.task; lock = is.at.served; other = tt; owner = tt; woken = tt; boost = tt })
+  of_acquire l (is_mark is) = subst Within (sym is.event) (record { task = is.at.task; lock = is.at.served; other = tt; owner = tt; woken = tt; boost = tt })
+  of_acquire l (is_take is) = subst Within (sym is.event) (record { task = is.at.task; lock = is.at.served; other = tt; owner = tt; woken = tt; boost = boost_within (length s.threads) t _ _ is.at.task })
 
   of_wait : (l : LockId) → IsWaiting s t l e → Within e
   of_wait l (is_wait is) =
       let owner = owner_within s l shaped is.at.served in
       let boost = owner_boost_within (length s.threads) l (queued t (effective_of (task_part s t)) (owner_part s l)) (owner_part s l).owner (task_at (shared s) (owner_part s l).owner) owner in
-      subst Within (sym is.event) (record { task = is.at.task; lock = is.at.served; owner = owner; woken = tt; boost = boost })
-  of_wait l (is_again is) = subst Within (sym is.event) (record { task = is.at.task; lock = is.at.served; owner = tt; woken = tt; boost = tt })
+      subst Within (sym is.event) (record { task = is.at.task; lock = is.at.served; other = tt; owner = owner; woken = tt; boost = boost })
+  of_wait l (is_again is) = subst Within (sym is.event) (record { task = is.at.task; lock = is.at.served; other = tt; owner = tt; woken = tt; boost = tt })
 
   of_release : (l : LockId) → IsRelease s t l e → Within e
-  of_release l (is_free is) = subst Within (sym is.event) (record { task = is.at.task; lock = is.at.served; owner = tt; woken = tt; boost = tt })
+  of_release l (is_free is) = subst Within (sym is.event) (record { task = is.at.task; lock = is.at.served; other = tt; owner = tt; woken = tt; boost = tt })
   of_release l (is_give is) =
       let woken = top_within (length s.threads) (owner_part s l).rows (rows_within s l shaped is.at.served) in
-      subst Within (sym is.event) (record { task = is.at.task; lock = is.at.served; owner = tt; woken = woken; boost = boost_within (length s.threads) t _ _ is.at.task })
+      subst Within (sym is.event) (record { task = is.at.task; lock = is.at.served; other = tt; owner = tt; woken = woken; boost = boost_within (length s.threads) t _ _ is.at.task })
 
 -- what a next event names is there
 pub within : (s : State) (t : TaskId) (e : Event) → IsShaped s → IsNext s t e → IsWithin (length s.threads) (length s.locks) e

@@ -1,10 +1,13 @@
 -- When a task has a next event: told by its thread and its own state alone, with no look at a lock or at another task.
-use Rattle.std.specs.Prelude.{Bool, true, false, ◌||◌, Option, Some, None, is_some}
+-- So it changes only for tasks that an event involves.
+use Rattle.std.specs.Prelude.{◌≡◌, Bool, true, false, ◌||◌, Option, Some, None, IfSome, is_some, nat_eq}
 use Rattle.rt_base.specs.declared.call.Call.{Call}
 use Rattle.rt_base.specs.declared.call.Call.TheVariants as calls
 use Rattle.rt_base.specs.declared.id.LockId.{LockId}
+use Rattle.rt_base.specs.declared.id.TaskId.{TaskId}
 use Rattle.rt_base.specs.declared.state.TaskState.{TaskState}
 use Rattle.rt_base.specs.declared.state.TaskState.TheVariants as states
+use Rattle.rt_model.specs.declared.event.Event.{Event}
 use Rattle.rt_model.specs.declared.phase.Phase.{Phase}
 use Rattle.rt_model.specs.declared.phase.Phase.TheVariants as phases
 use Rattle.rt_model.specs.Parts.{TaskPart, ThreadPart, call_of}
@@ -38,3 +41,14 @@ can_at thread state (Some call) = can_in thread.phase state thread call
 -- the task of this thread has a next event
 abbrev pub can_move : ThreadPart → TaskPart → Bool
 can_move thread task = can_at thread task.state (call_of thread)
+
+-- the slot, where it names a task, names another one
+abbrev pub IsOther : TaskId → Option TaskId → Type 0
+IsOther u named = IfSome named (λ v. nat_eq v.0 u.0 ≡ false)
+
+-- the task neither acts in the event nor is one that it tells of
+pub record IsUninvolved (u : TaskId) (e : Event) : Type 0 where
+  pub task : nat_eq e.task.0 u.0 ≡ false
+  pub owner : IsOther u e.owner
+  pub other : IsOther u e.other
+  pub woken : IsOther u e.woken

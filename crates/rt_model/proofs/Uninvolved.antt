@@ -1,5 +1,5 @@
--- A task that an event doesn't name stays as it was, and so does whether it has a next event.
-use Rattle.std.proofs.Common.{◌≡◌, ℕ, zero, suc, false, List, refl, sym, ap, ◌∙◌, Option, Some, None, IfSome, unwrap_or}
+-- A task that an event doesn't involve stays as it was, and so does whether it has a next event.
+use Rattle.std.proofs.Common.{◌≡◌, ℕ, zero, suc, false, List, refl, sym, ap, ◌∙◌, Option, Some, None, unwrap_or}
 use Rattle.std.specs.Prelude.{slice_get, nat_eq, ◌&&◌}
 use Rattle.rt_base.specs.declared.id.TaskId.{TaskId}
 use Rattle.rt_model.specs.declared.event.Event.{Event}
@@ -11,7 +11,7 @@ use Rattle.rt_model.specs.Effect.{Touched}
 use Rattle.rt_model.specs.Rules.{touched}
 use Rattle.rt_model.specs.events.Acquire.{unowned, busy_touched}
 use Rattle.rt_model.specs.StateAfter.{at_task, effect_in, lock_left, state_after}
-use Rattle.rt_model.specs.CanMove.{can_move}
+use Rattle.rt_model.specs.CanMove.{IsOther, IsUninvolved, can_move}
 use Rattle.rt_model.specs.Run.{is_enabled}
 use Rattle.rt_model.specs.Order.{in_walk, is_walking}
 use Rattle.rt_model.proofs.Lists.{update-other}
@@ -19,17 +19,7 @@ use Rattle.rt_model.proofs.Numbers.{other_number}
 use Rattle.rt_model.proofs.PartsAfter.{thread-other}
 use Rattle.rt_model.proofs.Local.{has-next}
 
-abbrev pub IsOther : TaskId → Option TaskId → Type 0
-IsOther u named = IfSome named (λ v. nat_eq v.0 u.0 ≡ false)
-
--- the event names the task nowhere
-pub record IsUnnamed (u : TaskId) (e : Event) : Type 0 where
-  pub task : nat_eq e.task.0 u.0 ≡ false
-  pub owner : IsOther u e.owner
-  pub other : IsOther u e.other
-  pub woken : IsOther u e.woken
-
--- and none of its slots is the task's
+-- none of the slots is the task's
 record IsNoSlot (u : TaskId) (named : Touched) : Type 0 where
   own : IsOther u named.own
   owner : IsOther u named.owner
@@ -44,7 +34,7 @@ busy-other : (value : ℕ) (u : TaskId) (e : Event) → nat_eq e.task.0 u.0 ≡ 
 busy-other zero u e ne = record { own = unowned-other u e.task e.owner ne; owner = tt; other = tt; woken = tt }
 busy-other (suc n) u e ne = record { own = tt; owner = tt; other = tt; woken = tt }
 
-slots : (kind : EventKind) (u : TaskId) (e : Event) → IsUnnamed u e → IsNoSlot u (touched kind e)
+slots : (kind : EventKind) (u : TaskId) (e : Event) → IsUninvolved u e → IsNoSlot u (touched kind e)
 slots kinds.Take u e un = record { own = un.task; owner = tt; other = tt; woken = tt }
 slots kinds.Busy u e un = busy-other e.value u e un.task
 slots kinds.Wait u e un = record { own = un.task; owner = un.owner; other = tt; woken = tt }
@@ -66,8 +56,8 @@ apart : (xs : List TaskPart) (named : Option TaskId) (u : TaskId) (f : TaskPart 
 apart xs None u f is = refl
 apart xs (Some v) u f is = update-other xs v.0 u.0 f (λ same. other_number v.0 u.0 is same)
 
-pub unnamed-task : (s : State) (e : Event) (u : TaskId) → IsUnnamed u e → task_part (state_after s e) u ≡ task_part s u
-unnamed-task s e u un =
+pub uninvolved-task : (s : State) (e : Event) (u : TaskId) → IsUninvolved u e → task_part (state_after s e) u ≡ task_part s u
+uninvolved-task s e u un =
     let f = effect_in (shared s) (thread_part s e.task) e in
     let lock = lock_left (shared s) (thread_part s e.task) e in
     let named = touched e.kind e in
@@ -80,10 +70,10 @@ unnamed-task s e u un =
     ∙ (apart own named.owner u (f.owner lock) none.owner ∙ apart s.tasks named.own u (f.own lock) none.own)))
 
 -- it has a next event as it had before, and walks as it did
-pub unnamed-enabled : (s : State) (e : Event) (u : TaskId) → IsUnnamed u e → is_enabled (state_after s e) u.0 ≡ is_enabled s u.0
-unnamed-enabled s e u un =
+pub uninvolved-enabled : (s : State) (e : Event) (u : TaskId) → IsUninvolved u e → is_enabled (state_after s e) u.0 ≡ is_enabled s u.0
+uninvolved-enabled s e u un =
     has-next (state_after s e) u
-    ∙ ((λ i. can_move (thread-other s e u un.task i) (unnamed-task s e u un i)) ∙ sym (has-next s u))
+    ∙ ((λ i. can_move (thread-other s e u un.task i) (uninvolved-task s e u un i)) ∙ sym (has-next s u))
 
-pub unnamed-walking : (s : State) (e : Event) (u : TaskId) → IsUnnamed u e → is_walking (state_after s e) u.0 ≡ is_walking s u.0
-unnamed-walking s e u un = λ i. in_walk (thread-other s e u un.task i).phase && unnamed-enabled s e u un i
+pub uninvolved-walking : (s : State) (e : Event) (u : TaskId) → IsUninvolved u e → is_walking (state_after s e) u.0 ≡ is_walking s u.0
+uninvolved-walking s e u un = λ i. in_walk (thread-other s e u un.task i).phase && uninvolved-enabled s e u un i

@@ -5,8 +5,8 @@ ghost use Rattle.rt_model.specs.Parts.{OwnerPart};
 ghost use Rattle.rt_model.specs.Rows.{top_key};
 ghost use Rattle.rt_model.specs.events.Wait.{owner_boost, wait_event, slow_event, again_event, awake_event, queued_event};
 
-use crate::next::chosen::Chosen;
 use crate::next::acquire::{can_take, take_event};
+use crate::next::chosen::Chosen;
 use crate::next::event::{bare, boost_of, on_lock};
 use crate::shared::Shared;
 use rt_base::{Kind, LockId, Prio, TaskId, TaskState};

@@ -1,4 +1,4 @@
-use Rattle.std.proofs.Common.{◌∙◌, ap, sym}
+use Rattle.std.proofs.Common.{◌∙◌, ap}
 use Rattle.std.specs.Prelude.{◌&&◌}
 use Rattle.rt_model.specs.Run.{is_enabled}
 use Rattle.rt_model.specs.Order.{in_walk, is_walking}
@@ -17,5 +17,5 @@ returns c = λ u lt was.
     record {
       enabled = put-right (is_enabled s) c.args.self.now.all _ t.0 u.0 _ (c.put.ensures u.0 lt) (is ∙ told-enabled sh threads t thread _ c.requires.task c.index-threads-t.is c.task.ensures.part) (λ ne. (was ne).enabled);
       walking = put-right (is_walking s) c.args.self.now.walking _ t.0 u.0 _ (c.put-2.ensures u.0 lt)
-        (c.is_walking.ensures ∙ (ap (λ b. in_walk thread.phase && b) is ∙ told-walking sh threads t thread _ c.requires.task c.index-threads-t.is c.task.ensures.part)) (λ ne. (was ne).walking);
+          (c.is_walking.ensures ∙ (ap (λ b. in_walk thread.phase && b) is ∙ told-walking sh threads t thread _ c.requires.task c.index-threads-t.is c.task.ensures.part)) (λ ne. (was ne).walking);
     }

@@ -1,4 +1,4 @@
-use Rattle.std.proofs.Common.{◌<◌, ℕ, arith, inl, inr, length}
+use Rattle.std.proofs.Common.{arith, inl, inr, length}
 use Rattle.std.proofs.lemmas.Bool.Decides.{leb_tells}
 use Rattle.rt_core.proofs.enabled.Enabled.of.Goals as goal
 

@@ -48,8 +48,7 @@ look_after-requires-clause-woken c = named c c.args.e.now.woken (names c).woken
 pub invariant_of-self : goal.invariant_of-self
 invariant_of-self c =
     let e = c.args.e.now in
-    let lawful = c.self.invariant.0 in
-    (
+    let lawful = c.self.invariant.0 in (
       lawful_left _ _ _ _ e lawful c.self.view_is c.requires.next c.requires.made c.make.new.shared c.index_mut.result.now _ c.index_mut.ensures.value c.make.ensures.shared c.make.ensures.thread,
       kept-left _ _ _ _ e lawful c.self.view_is c.requires.next c.requires.made c.self.inside.enabled c.look_after.new.self c.make.new.shared c.index_mut.result.now _ c.index_mut.ensures.value c.make.ensures.shared c.make.ensures.thread c.self.invariant.1 c.as_slice.result.now c.as_slice.ensures.value c.look_after.ensures,
     )

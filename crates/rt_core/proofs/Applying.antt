@@ -1,6 +1,7 @@
 -- What an event that comes next finds in the parts of a core, and that a core is left.
 use Rattle.std.proofs.Common.{◌≡◌, ◌∙◌, ℕ, suc, ◌+◌, ◌<◌, ◌^◌, List, length, get_or, refl, sym, ap, subst, arith, Option, Some, None, IfSome, IsSome}
 use Rattle.std.specs.Prelude.{option_map, slice_set}
+use Rattle.std.proofs.Math.ListN.{length-set}
 use Rattle.rt_base.specs.declared.call.Call.{Call}
 use Rattle.rt_base.specs.declared.call.Call.TheVariants as calls
 use Rattle.rt_base.specs.declared.id.Cpu.{Cpu}
@@ -26,7 +27,12 @@ use Rattle.rt_model.proofs.Named.{within}
 use Rattle.rt_model.proofs.Waiters.{slow-unqueued}
 use Rattle.rt_model.proofs.Lists.{All-default, update-index}
 use Rattle.rt_model.proofs.Lawful.{IsLawful-next}
+use Rattle.rt_model.specs.CanMove.{IsUninvolved}
+use Rattle.rt_model.specs.laws.Shape.{IsWithin}
+use Rattle.rt_model.proofs.Uninvolved.{uninvolved-enabled, uninvolved-walking}
 use Rattle.rt_core.specs.Core.{Made, with_threads}
+use Rattle.rt_core.specs.Enabled.{IsKeptAt, AreKept}
+use Rattle.rt_core.specs.declared.enabled.Enabled.{Enabled}
 use Rattle.rt_core.specs.Fits.{CanQueue, Fits}
 
 -- ---- what an event finds
@@ -122,6 +128,13 @@ module _ (sh : Shared) (threads : List ThreadPart) (made : ℕ) (now : Made) (e 
   pub fits_thread : (thread : ThreadPart) → thread ≡ get_or threads e.task.0 thread → Fits e sh thread
   fits_thread thread at = subst (Fits e sh) (own_thread thread at) (fits (with_threads sh threads) made e lawful few_made chosen_there)
 
+  -- whoever it names has a thread, as the threads are left, too
+  pub named-left : (moved : ThreadPart) (found : List ThreadPart) (o : Option TaskId) → found ≡ slice_set threads e.task.0 moved → IfSome o (λ t. t.0 < length threads) → IfSome o (λ t. t.0 < length found)
+  named-left moved found o is_found there = subst (λ (n : ℕ). IfSome o (λ t. t.0 < n)) (sym (ap length is_found ∙ length-set threads e.task.0 moved)) there
+
+  pub names-within : IsWithin (length threads) (length sh.locks) e
+  names-within = within (with_threads sh threads) e.task e lawful.shape (next (with_threads sh threads) made e lawful chosen_there)
+
   -- the parts that it leaves make the state that it leaves
   left_here : (left : Shared) (thread moved : ThreadPart) → thread ≡ get_or threads e.task.0 thread → left ≡ shared_after sh thread e → moved ≡ thread_after sh thread e
       → with_threads left (slice_set threads e.task.0 moved) ≡ state_after (with_threads sh threads) e
@@ -143,3 +156,16 @@ module _ (sh : Shared) (threads : List ThreadPart) (made : ℕ) (now : Made) (e 
       let one_more : suc made ≡ made + 1 = omega arith in
       let kept = IsLawful-next (with_threads sh threads) made e.task e lawful (next (with_threads sh threads) made e lawful chosen_there) in
       subst (λ (n : ℕ). IsLawful (with_threads left (slice_set threads e.task.0 moved)) n) one_more (subst (λ (x : State). IsLawful x (suc made)) (sym (left_here left thread moved at is_left is_moved)) kept)
+
+  -- and whose kept sets are right where the involved tasks were looked at anew
+  pub kept-left : (kept after : Enabled) (left : Shared) (thread moved : ThreadPart) → thread ≡ get_or threads e.task.0 thread → left ≡ shared_after sh thread e → moved ≡ thread_after sh thread e → AreKept (with_threads sh threads) kept
+      → (found : List ThreadPart) → found ≡ slice_set threads e.task.0 moved → ((u : TaskId) → u.0 < 64 → (IsUninvolved u e → IsKeptAt (with_threads left found) kept u.0) → IsKeptAt (with_threads left found) after u.0)
+      → AreKept (with_threads left (slice_set threads e.task.0 moved)) after
+  kept-left kept after left thread moved at is_left is_moved was found same_found looks =
+      let s = with_threads sh threads in
+      let same = left_here left thread moved at is_left is_moved in
+      let looked = subst (λ (all : List ThreadPart). (u : TaskId) → u.0 < 64 → (IsUninvolved u e → IsKeptAt (with_threads left all) kept u.0) → IsKeptAt (with_threads left all) after u.0) same_found looks in
+      λ t lt. let u : TaskId = record { 0 = t } in looked u lt (λ none. subst (λ (x : State). IsKeptAt x kept t) (sym same) (record {
+        enabled = (was t lt).enabled ∙ sym (uninvolved-enabled s e u none);
+        walking = (was t lt).walking ∙ sym (uninvolved-walking s e u none);
+      }))

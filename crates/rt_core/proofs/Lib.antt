@@ -1,3 +1,5 @@
+pub mod TaskBits
+pub mod KeptSets
 pub mod Prefixes
 pub mod PrefixesAll
 pub mod OwnerParts

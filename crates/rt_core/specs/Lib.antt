@@ -1,6 +1,8 @@
 pub mod Shared
 pub mod Thread
+pub mod TaskSet
 pub mod Core
+pub mod Enabled
 pub mod Fits
 pub mod Report
 pub mod Text

@@ -3,6 +3,7 @@
 #![tactic(auto)]
 
 mod effect;
+mod enabled;
 mod machine;
 #[cfg(test)]
 mod machine_tests;
@@ -12,6 +13,7 @@ mod playable;
 mod report;
 mod shared;
 mod start;
+mod task_set;
 mod thread;
 
 pub use machine::Core;

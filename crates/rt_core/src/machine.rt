@@ -18,7 +18,8 @@ ghost use Rattle.rt_core.specs.Report.{IsNoteWithin, note_of, call_note, blocked
 ghost use Rattle.rt_core.specs.Core.{Made};
 
 use crate::effect::make;
-use crate::next::{boost_within, next_of};
+use crate::enabled::Enabled;
+use crate::next::{boost_within, event_of, next_of};
 use crate::note::Note;
 use crate::playable::has_one_mutex;
 use crate::report::{write_lock_line, write_task_line};
@@ -34,12 +35,13 @@ use rt_tasks::TaskCell;
 use std::alloc::Global;
 use std::marker::Model;
 
-/// The lock machine in one of its states: what all tasks share, the threads apart, and how many events
-/// were made.
+/// The lock machine in one of its states: what all tasks share, the threads apart, which tasks have a next
+/// event, and how many events were made.
 #[derive(Drop)]
 pub struct Core {
     shared: Shared,
     threads: Vec<Thread>,
+    enabled: Enabled,
     made: u64,
 }
 
@@ -49,11 +51,12 @@ impl Model for Core {
     ghost Value = { Made };
 
     ghost use Rattle.rt_core.specs.Core.{with_threads};
+    ghost use Rattle.rt_core.specs.Enabled.{AreKept};
     ghost use Rattle.rt_model.specs.laws.Lawful.{IsLawful};
 
     ghost view = { λ c. record { state = with_threads c.shared c.threads.items; made = c.made } };
 
-    ghost invariant = { λ c. IsLawful (with_threads c.shared c.threads.items) c.made };
+    ghost invariant = { λ c. IsLawful (with_threads c.shared c.threads.items) c.made × AreKept (with_threads c.shared c.threads.items) c.enabled };
 }
 
 impl Core {
@@ -72,9 +75,13 @@ impl Core {
         ensures script { IfOk result (λ core. IsOf script.now core.state) }
         ensures lawful { IfOk result (λ core. IsLawful core.state core.made) }
     {
+        let shared = Shared::new(alloc, script)?;
+        let threads = threads(alloc, script)?;
+        let enabled = Enabled::of(&shared, threads.as_slice());
         Ok(Core {
-            shared: Shared::new(alloc, script)?,
-            threads: threads(alloc, script)?,
+            shared,
+            threads,
+            enabled,
             made: 0,
         })
     }
@@ -154,16 +161,19 @@ impl Core {
         self.lowest_enabled().is_none() && !self.done()
     }
 
+    /// Whether a task has a next event.
+    pub fn is_enabled(&self, t: TaskId) -> bool
+        requires { t.0 < length self.now.state.threads }
+        ensures { result ≡ is_enabled self.now.state t.0 }
+    {
+        self.enabled.all.contains(t)
+    }
+
     /// The lowest task that has a next event.
     pub fn lowest_enabled(&self) -> Option<TaskId>
         ensures { result ≡ lowest (is_enabled self.now.state) (length self.now.state.threads) }
     {
-        for t in 0..self.tasks() {
-            if self.next(TaskId(t)).is_some() {
-                return Some(TaskId(t));
-            }
-        }
-        None
+        self.enabled.all.lowest()
     }
 
     /// Whether a task's chain walk is unfinished and it has a next event.
@@ -171,7 +181,14 @@ impl Core {
         requires { t.0 < length self.now.state.threads }
         ensures { result ≡ is_walking self.now.state t.0 }
     {
-        self.thread(t).is_in_walk() && self.next(t).is_some()
+        self.enabled.walking.contains(t)
+    }
+
+    /// The lowest task whose chain walk is unfinished and that has a next event.
+    pub fn lowest_walking(&self) -> Option<TaskId>
+        ensures { result ≡ lowest (is_walking self.now.state) (length self.now.state.threads) }
+    {
+        self.enabled.walking.lowest()
     }
 
     /// Where a task stands.
@@ -195,7 +212,7 @@ impl Core {
         match thread.phase() {
             Phase::Walk(cursor, _) => Note::Walk(cursor),
             Phase::Confirm(_) => Note::Confirm,
-            _ if self.next(t).is_some() => Note::Ready,
+            _ if self.is_enabled(t) => Note::Ready,
             Phase::Wait => blocked_note(self.cell(t).blocked_at()),
             Phase::WWait => readers_note(thread.called_lock(&call)),
             _ => Note::Wake,
@@ -213,7 +230,7 @@ impl Core {
         ensures local { IfSome result (λ e. (s : State) → AgreeOn e self.now.state s → next_event s t ≡ Some e) }
         ensures none { result ≡ None → (s : State) → thread_part s t ≡ thread_part self.now.state t → task_part s t ≡ task_part self.now.state t → next_event s t ≡ None }
     {
-        let event = next_of(&self.shared, t, self.thread(t));
+        let event = event_of(next_of(&self.shared, t, self.thread(t)));
         boost_within(&event);
         event
     }
@@ -234,6 +251,8 @@ impl Core {
         ensures lawful { IsLawful self.new.state self.new.made }
     {
         make(&mut self.shared, &mut self.threads[e.task.0 as usize], e);
+        self.enabled
+            .look_after(&self.shared, self.threads.as_slice(), e);
         self.made += 1;
     }
 }

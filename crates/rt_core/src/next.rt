@@ -7,23 +7,26 @@ ghost use Rattle.rt_model.specs.events.Own.{own_answer};
 ghost use Rattle.rt_model.specs.NextEvent.{first_event, answered_or, later_event, next_of};
 
 mod acquire;
+mod chosen;
 mod event;
 mod own;
 mod release;
 mod wait;
 
 use crate::next::acquire::acquire_event;
+pub use crate::next::chosen::{Chosen, event_of};
 pub use crate::next::event::boost_within;
-use crate::next::own::{own_answer, own_event};
+pub use crate::next::own::own_answer;
+use crate::next::own::own_event;
 use crate::next::release::release_event;
 use crate::next::wait::{queued_event, slow_event};
 use crate::shared::Shared;
 use crate::thread::Thread;
 use rt_base::{Call, LockId, TaskId};
-use rt_model::{Event, Phase};
+use rt_model::Phase;
 
 /// The event of a task with this thread, where it has one.
-pub fn next_of(shared: &Shared, t: TaskId, thread: &Thread) -> Option<Event>
+pub fn next_of(shared: &Shared, t: TaskId, thread: &Thread) -> Option<Chosen>
     requires task { t.0 < length shared.now.tasks }
     requires kinds { length thread.now.kinds ≡ length shared.now.locks }
     ensures { result ≡ next_of shared.now t thread.now }
@@ -36,7 +39,7 @@ pub fn next_of(shared: &Shared, t: TaskId, thread: &Thread) -> Option<Event>
 }
 
 // The event of a call in phase Start: the answer that its thread gives at once, or its first event.
-fn start_event(shared: &Shared, t: TaskId, thread: &Thread, call: &Call) -> Option<Event>
+fn start_event(shared: &Shared, t: TaskId, thread: &Thread, call: &Call) -> Option<Chosen>
     requires task { t.0 < length shared.now.tasks }
     requires kinds { length thread.now.kinds ≡ length shared.now.locks }
     requires served { IsServed (length thread.now.kinds) call.now }
@@ -49,7 +52,7 @@ fn start_event(shared: &Shared, t: TaskId, thread: &Thread, call: &Call) -> Opti
 }
 
 // The first event of a call that isn't answered by its thread alone.
-fn first_event(shared: &Shared, t: TaskId, call: &Call) -> Option<Event>
+fn first_event(shared: &Shared, t: TaskId, call: &Call) -> Option<Chosen>
     requires task { t.0 < length shared.now.tasks }
     requires served { IsServed (length shared.now.locks) call.now }
     ensures { result ≡ first_event shared.now t call.now }
@@ -68,7 +71,7 @@ fn later_event(
     t: TaskId,
     thread: &Thread,
     lock: Option<LockId>,
-) -> Option<Event>
+) -> Option<Chosen>
     requires task { t.0 < length shared.now.tasks }
     requires kinds { length thread.now.kinds ≡ length shared.now.locks }
     requires lock { IfSome lock (λ l. l.0 < length thread.now.kinds) }

@@ -16,6 +16,7 @@ pub mod TaskStates
 pub mod Frame
 pub mod EffectLocal
 pub mod Local
+pub mod Uninvolved
 -- what a lawful state says of a task
 pub mod Within
 pub mod Waiters

@@ -22,6 +22,7 @@ use Rattle.rt_model.specs.events.Wait.{wait_event, slow_event, queued_event}
 use Rattle.rt_model.specs.events.Walk.{cursor_event}
 use Rattle.rt_model.specs.events.Wakeups.{setprio_event}
 use Rattle.rt_model.specs.events.Own.{own_answer}
+use Rattle.rt_model.specs.CanMove.{has_first, runs, can_go_on, can_in, can_at, can_move}
 use Rattle.rt_model.specs.NextEvent.{answered_or, first_event, later_event, event_in, event_of, next_of, next_event}
 use Rattle.rt_model.specs.laws.Local.{AgreeOn}
 use Rattle.rt_model.proofs.EffectLocal.{agree-thread, agree-shared}
@@ -118,35 +119,6 @@ local s other t e is agree =
 
 -- ---- none
 
--- whether there is a next event, by the thread and its own task alone
-abbrev has_first : Call → Bool
-has_first (calls.Lock l) = true
-has_first (calls.TryLock l) = true
-has_first (calls.Unlock l) = true
-has_first (calls.SetPrio u prio) = true
-has_first _ = false
-
-abbrev runs : TaskState → Bool
-runs states.Running = true
-runs _ = false
-
-abbrev can_later : Phase → TaskState → Option LockId → Bool
-can_later phases.Slow state (Some l) = true
-can_later phases.Wait state (Some l) = runs state
-can_later (phases.Walk u route) state lock = true
-can_later _ state lock = false
-
-abbrev can_in : Phase → TaskState → ThreadPart → Call → Bool
-can_in phases.Start state thread call = is_some (own_answer thread call) || has_first call
-can_in phase state thread call = can_later phase state (called_lock thread.cpu call)
-
-abbrev can_at : ThreadPart → TaskState → Option Call → Bool
-can_at thread state None = false
-can_at thread state (Some call) = can_in thread.phase state thread call
-
-abbrev pub can_move : ThreadPart → TaskPart → Bool
-can_move thread task = can_at thread task.state (call_of thread)
-
 has-first : (sh : Shared) (t : TaskId) (thread : ThreadPart) (call : Call) → is_some (first_event sh t thread call) ≡ has_first call
 has-first sh t thread (calls.Lock l) = refl
 has-first sh t thread (calls.TryLock l) = refl
@@ -162,7 +134,7 @@ has-queued : (t : TaskId) (l : LockId) (kind : Kind) (lock : OwnerPart) (task : 
 has-queued t l kind lock task states.Running = refl
 has-queued t l kind lock task _ = refl
 
-has-later : (phase : Phase) (sh : Shared) (t : TaskId) (thread : ThreadPart) (lock : Option LockId) → is_some (later_event phase sh t thread lock) ≡ can_later phase (task_in sh t).state lock
+has-later : (phase : Phase) (sh : Shared) (t : TaskId) (thread : ThreadPart) (lock : Option LockId) → is_some (later_event phase sh t thread lock) ≡ can_go_on phase (task_in sh t).state lock
 has-later phases.Slow sh t thread (Some l) = refl
 has-later phases.Wait sh t thread (Some l) = has-queued t l (kind_of thread l) (lock_in sh l) (task_in sh t) (task_in sh t).state
 has-later (phases.Walk u route) sh t thread lock = refl

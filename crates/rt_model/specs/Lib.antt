@@ -11,6 +11,7 @@ pub mod Rules
 pub mod StateAfter
 pub mod Footprint
 pub mod NextEvent
+pub mod CanMove
 -- runs, the order, the stage, and the laws
 pub mod Run
 pub mod Order

@@ -21,7 +21,7 @@ pub fn pick_next(core: &Core, last: Option<TaskId>) -> Option<TaskId>
 fn lowest_walking_or_enabled(core: &Core) -> Option<TaskId>
     ensures { result ≡ or_else (lowest (is_walking core.now.state) (length core.now.state.threads)) (lowest (is_enabled core.now.state) (length core.now.state.threads)) }
 {
-    match lowest_walking(core) {
+    match core.lowest_walking() {
         Some(t) => Some(t),
         None => core.lowest_enabled(),
     }
@@ -35,21 +35,5 @@ fn still_enabled(core: &Core, last: Option<TaskId>) -> Option<TaskId>
     let Some(t) = last else {
         return None;
     };
-    if core.next(t).is_some() {
-        Some(t)
-    } else {
-        None
-    }
-}
-
-// The lowest task whose chain walk is unfinished.
-fn lowest_walking(core: &Core) -> Option<TaskId>
-    ensures { result ≡ lowest (is_walking core.now.state) (length core.now.state.threads) }
-{
-    for t in 0..core.tasks() {
-        if core.is_walking(TaskId(t)) {
-            return Some(TaskId(t));
-        }
-    }
-    None
+    if core.is_enabled(t) { Some(t) } else { None }
 }

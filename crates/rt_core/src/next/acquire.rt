@@ -4,15 +4,16 @@ ghost use Rattle.rt_base.specs.declared.kind.Kind.{Kind};
 ghost use Rattle.rt_model.specs.Rows.{can_take};
 ghost use Rattle.rt_model.specs.events.Acquire.{fast_event, mark_event, acquire_event, take_event};
 
+use crate::next::chosen::Chosen;
 use crate::next::event::{boost_of, on_lock};
 use rt_base::{Kind, LockId, Reply, TaskId};
 use rt_locks::LockCell;
-use rt_model::{Event, EventKind};
+use rt_model::EventKind;
 use rt_tasks::TaskCell;
 
 /// The first event of a call that acquires and doesn't try: it gets a lock with no owner and its bit
 /// clear at once, and else sets the bit.
-pub fn acquire_event(t: TaskId, l: LockId, lock: &LockCell) -> Event
+pub fn acquire_event(t: TaskId, l: LockId, lock: &LockCell) -> Chosen
     ensures { result ≡ acquire_event t l lock.now.part }
 {
     if lock.owner().is_none() && !lock.bit() {
@@ -23,17 +24,17 @@ pub fn acquire_event(t: TaskId, l: LockId, lock: &LockCell) -> Event
 }
 
 // The fast acquire, `rt_mutex_cmpxchg_acquire`.
-fn fast_event(t: TaskId, l: LockId) -> Event
+fn fast_event(t: TaskId, l: LockId) -> Chosen
     ensures { result ≡ fast_event t l }
 {
-    Event {
+    Chosen {
         reply: Some(Reply::Got),
         ..on_lock(t, EventKind::Fast, l)
     }
 }
 
 // Sets the waiters bit, `mark_rt_mutex_waiters`.
-fn mark_event(t: TaskId, l: LockId) -> Event
+fn mark_event(t: TaskId, l: LockId) -> Chosen
     ensures { result ≡ mark_event t l }
 {
     on_lock(t, EventKind::Mark, l)
@@ -48,11 +49,11 @@ pub fn can_take(t: TaskId, kind: Kind, lock: &LockCell, task: &TaskCell) -> bool
 }
 
 /// Takes a lock, `try_to_take_rt_mutex` with success. The event is the same for each kind of lock.
-pub fn take_event(t: TaskId, l: LockId, lock: &LockCell, task: &TaskCell) -> Event
+pub fn take_event(t: TaskId, l: LockId, lock: &LockCell, task: &TaskCell) -> Chosen
     ensures { (kind : Kind) → result ≡ take_event t l kind lock.now.part task.now }
 {
     let after = task.effective_with(l, lock.top_key_without(t));
-    Event {
+    Chosen {
         boost: boost_of(t, task.effective(), after),
         reply: Some(Reply::Got),
         ..on_lock(t, EventKind::Take, l)

@@ -2,15 +2,16 @@
 ghost use Rattle.std.specs.Prelude.{◌≡◌, ◌≤◌, Some, IfSome};
 ghost use Rattle.rt_model.specs.Choice.{bare, boost_of};
 
+use crate::next::chosen::Chosen;
 use rt_base::limits::MAX_PRIO;
-use rt_base::{LockId, Path, Prio, TaskId};
+use rt_base::{LockId, Prio, TaskId};
 use rt_model::{Event, EventKind};
 
 /// An event that names nothing but its task.
-pub fn bare(task: TaskId, kind: EventKind) -> Event
+pub fn bare(task: TaskId, kind: EventKind) -> Chosen
     ensures { result ≡ bare task kind }
 {
-    Event {
+    Chosen {
         task,
         kind,
         lock: None,
@@ -18,17 +19,16 @@ pub fn bare(task: TaskId, kind: EventKind) -> Event
         owner: None,
         woken: None,
         value: 0,
-        path: Path::empty(),
         boost: None,
         reply: None,
     }
 }
 
 /// An event on a lock that tells nothing else.
-pub fn on_lock(t: TaskId, kind: EventKind, l: LockId) -> Event
+pub fn on_lock(t: TaskId, kind: EventKind, l: LockId) -> Chosen
     ensures { result ≡ record (bare t kind) { lock = Some l } }
 {
-    Event {
+    Chosen {
         lock: Some(l),
         ..bare(t, kind)
     }

@@ -4,10 +4,11 @@ ghost use Rattle.rt_model.specs.Parts.{kind_of};
 ghost use Rattle.rt_model.specs.Stage.{IsServed};
 ghost use Rattle.rt_model.specs.events.Own.{if_held, if_not_held, private_answer, own_answer, own_event};
 
+use crate::next::chosen::Chosen;
 use crate::next::event::bare;
 use crate::thread::Thread;
 use rt_base::{Call, Kind, LockId, Reply, TaskId};
-use rt_model::{Event, EventKind};
+use rt_model::EventKind;
 
 /// The answer that a thread gives a call at once, where it does.
 pub fn own_answer(thread: &Thread, call: &Call) -> Option<Reply>
@@ -26,10 +27,10 @@ pub fn own_answer(thread: &Thread, call: &Call) -> Option<Reply>
 }
 
 /// That answer's event.
-pub fn own_event(t: TaskId, lock: Option<LockId>, answer: Reply) -> Event
+pub fn own_event(t: TaskId, lock: Option<LockId>, answer: Reply) -> Chosen
     ensures { result ≡ own_event t lock answer }
 {
-    Event {
+    Chosen {
         lock,
         reply: Some(answer),
         ..bare(t, EventKind::Own)

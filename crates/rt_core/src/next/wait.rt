@@ -6,16 +6,17 @@ ghost use Rattle.rt_model.specs.Rows.{top_key};
 ghost use Rattle.rt_model.specs.events.Wait.{owner_boost, wait_event, slow_event, again_event, awake_event, queued_event};
 
 use crate::next::acquire::{can_take, take_event};
+use crate::next::chosen::Chosen;
 use crate::next::event::{bare, boost_of, on_lock};
 use crate::shared::Shared;
 use rt_base::{Kind, LockId, Prio, TaskId, TaskState};
 use rt_locks::LockCell;
-use rt_model::{Event, EventKind};
+use rt_model::EventKind;
 use rt_tasks::TaskCell;
 
 /// The event of a call that has set the bit: it takes the lock, of this kind, where it may, and else is
 /// queued.
-pub fn slow_event(shared: &Shared, t: TaskId, l: LockId, kind: Kind) -> Event
+pub fn slow_event(shared: &Shared, t: TaskId, l: LockId, kind: Kind) -> Chosen
     requires task { t.0 < length shared.now.tasks }
     requires lock { l.0 < length shared.now.locks }
     ensures { result ≡ slow_event t l kind (lock_in shared.now l) (task_in shared.now t) (task_at shared.now (lock_in shared.now l).owner) }
@@ -29,14 +30,14 @@ pub fn slow_event(shared: &Shared, t: TaskId, l: LockId, kind: Kind) -> Event
 }
 
 // Is queued, `task_blocks_on_rt_mutex`.
-fn wait_event(shared: &Shared, t: TaskId, l: LockId) -> Event
+fn wait_event(shared: &Shared, t: TaskId, l: LockId) -> Chosen
     requires task { t.0 < length shared.now.tasks }
     requires lock { l.0 < length shared.now.locks }
     ensures { result ≡ wait_event t l (lock_in shared.now l) (task_in shared.now t) (task_at shared.now (lock_in shared.now l).owner) }
 {
     let lock = shared.lock(l);
     let top = lock.top_key_with(t, shared.task(t).effective());
-    Event {
+    Chosen {
         lock: Some(l),
         owner: lock.owner(),
         boost: owner_boost(shared, l, lock.owner(), top),
@@ -66,7 +67,7 @@ pub fn queued_event(
     kind: Kind,
     lock: &LockCell,
     task: &TaskCell,
-) -> Option<Event>
+) -> Option<Chosen>
     ensures { result ≡ queued_event t l kind lock.now.part task.now task.now.state }
 {
     match task.state() {
@@ -76,7 +77,7 @@ pub fn queued_event(
 }
 
 // The event of a queued task that runs.
-fn awake_event(t: TaskId, l: LockId, kind: Kind, lock: &LockCell, task: &TaskCell) -> Event
+fn awake_event(t: TaskId, l: LockId, kind: Kind, lock: &LockCell, task: &TaskCell) -> Chosen
     ensures { result ≡ awake_event t l kind lock.now.part task.now }
 {
     if can_take(t, kind, lock, task) {
@@ -87,7 +88,7 @@ fn awake_event(t: TaskId, l: LockId, kind: Kind, lock: &LockCell, task: &TaskCel
 }
 
 // Sleeps again.
-fn again_event(t: TaskId, l: LockId) -> Event
+fn again_event(t: TaskId, l: LockId) -> Chosen
     ensures { result ≡ again_event t l }
 {
     on_lock(t, EventKind::Again, l)

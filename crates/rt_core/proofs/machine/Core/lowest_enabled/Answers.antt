@@ -1,11 +1,12 @@
-use Rattle.std.proofs.Common.{◌≡◌, ◌∙◌, ◌<◌, true, sym, ap, length, arith, is_some}
-use Rattle.rt_model.specs.Run.{is_enabled}
-use Rattle.rt_model.proofs.Lowest.{lowest-found}
+use Rattle.std.proofs.Common.{◌∙◌, ap, length}
+use Rattle.rt_model.specs.Run.{is_enabled, lowest}
+use Rattle.rt_core.specs.Core.{Made, with_threads}
+use Rattle.rt_core.proofs.KeptSets.{beyond, lowest-kept}
 use Rattle.rt_core.proofs.machine.Core.lowest_enabled.Goals as goal
 
-pub returns-then-is_some : goal.returns-then-is_some
-returns-then-is_some c =
-    let s = c.args.self.now.state in
-    let lt : c.loop-t.t < length s.threads = omega (arith, c.tasks-t-end.ensures.number) in
-    let passes : is_enabled s c.loop-t.t ≡ true = ap is_some (sym c.next.ensures.event) ∙ (sym c.is_some.ensures ∙ c.if-is_some.true) in
-    sym (lowest-found (is_enabled s) (length s.threads) c.loop-t.t lt c.loop-t.invariant passes)
+pub returns : goal.returns
+returns c =
+    let s = with_threads c.self.inside.shared c.self.inside.threads.items in
+    let laws = c.self.invariant in
+    lowest-kept (is_enabled s) c.self.inside.enabled.all (length s.threads) laws.0.shape.few_tasks (λ t lt. (laws.1 t lt).enabled) (beyond s) c.lowest.result c.lowest.ensures.some c.lowest.ensures.within c.lowest.ensures.none
+    ∙ ap (λ (m : Made). lowest (is_enabled m.state) (length m.state.threads)) c.self.view_is

@@ -1,22 +1,24 @@
-use Rattle.std.proofs.Common.{◌≡◌, sym, subst}
+use Rattle.std.proofs.Common.{◌≡◌, sym, subst, List}
 use Rattle.rt_model.specs.State.{State, start}
 use Rattle.rt_model.specs.laws.Shape.{IsOf}
 use Rattle.rt_model.specs.laws.Lawful.{IsLawful}
 use Rattle.rt_model.proofs.Starts.{IsLawful-start, IsOf-start}
+use Rattle.rt_model.specs.Parts.{ThreadPart}
 use Rattle.rt_core.specs.Core.{with_threads}
+use Rattle.rt_core.specs.Enabled.{AreKept}
 use Rattle.rt_core.proofs.machine.Core.new.Goals.{In_ok-threads}
 use Rattle.rt_core.proofs.machine.Core.new.Goals as goal
 
 -- the parts make the script's start state
-begun : (c : In_ok-threads) → with_threads c.in_ok-new.field-0 c.in_ok-threads.field-0.items ≡ start c.args.script.now
-begun c = λ i. with_threads (c.in_ok-new.ensures.start i) (c.in_ok-threads.ensures i)
+begun : (c : In_ok-threads) → with_threads c.in_ok-shared.shared c.in_ok-threads.threads.items ≡ start c.args.script.now
+begun c = λ i. with_threads (c.in_ok-shared.ensures.start i) (c.in_ok-threads.ensures i)
 
 -- which is lawful
-lawful : (c : In_ok-threads) → IsLawful (with_threads c.in_ok-new.field-0 c.in_ok-threads.field-0.items) 0
-lawful c = subst (λ (s : State). IsLawful s 0) (sym (begun c)) (IsLawful-start c.args.script.now c.in_ok-new.ensures.valid c.requires)
+lawful : (c : In_ok-threads) → IsLawful (with_threads c.in_ok-shared.shared c.in_ok-threads.threads.items) 0
+lawful c = subst (λ (s : State). IsLawful s 0) (sym (begun c)) (IsLawful-start c.args.script.now c.in_ok-shared.ensures.valid c.requires)
 
 pub invariant_of-result : goal.invariant_of-result
-invariant_of-result c = lawful (goal.at.invariant_of-result c).In_ok-threads
+invariant_of-result c = (lawful (goal.at.invariant_of-result c).In_ok-threads, subst (λ (threads : List ThreadPart). AreKept (with_threads c.in_ok-shared.shared threads) c.of-enabled.result) c.as_slice.ensures.value c.of-enabled.ensures)
 
 pub returns-clause-script : goal.returns-clause-script
 returns-clause-script c = subst (IsOf c.args.script.now) (sym (begun (goal.at.returns-clause-script c).In_ok-threads)) (IsOf-start c.args.script.now)

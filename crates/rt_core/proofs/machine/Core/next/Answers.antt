@@ -34,23 +34,23 @@ tells s made t None lawful is prio = tt
 tells s made t (Some e) lawful is prio = λ script number of few. well_formed script number s t e of few lawful.shape (choice s t e lawful.stage lawful.phases (sym is)) prio
 
 -- the event that was chosen
-event : (c : After-boost_within) → c.next_of-event.result ≡ next_event c.args.self.now.state c.args.t
-event c = c.next_of-event.ensures ∙ (λ i. next_of (shared (c.self.view_is i).state) c.args.t (c.thread.ensures.part i))
+event : (c : After-boost_within) → c.event_of-event.result ≡ next_event c.args.self.now.state c.args.t
+event c = c.event_of-event.ensures ∙ (c.next_of.ensures ∙ (λ i. next_of (shared (c.self.view_is i).state) c.args.t (c.thread.ensures.part i)))
 
 pub returns-clause-event : goal.returns-clause-event
 returns-clause-event c = event (goal.at.returns-clause-event c).After-boost_within
 
 pub returns-clause-task : goal.returns-clause-task
-returns-clause-task c = own_task c.args.self.now.state c.args.t c.next_of-event.result (event (goal.at.returns-clause-task c).After-boost_within)
+returns-clause-task c = own_task c.args.self.now.state c.args.t c.event_of-event.result (event (goal.at.returns-clause-task c).After-boost_within)
 
 pub returns-clause-within : goal.returns-clause-within
-returns-clause-within c = names_within c.args.self.now.state c.args.self.now.made c.args.t c.next_of-event.result c.thread.ensures.lawful (event (goal.at.returns-clause-within c).After-boost_within)
+returns-clause-within c = names_within c.args.self.now.state c.args.self.now.made c.args.t c.event_of-event.result c.thread.ensures.lawful (event (goal.at.returns-clause-within c).After-boost_within)
 
 pub returns-clause-told : goal.returns-clause-told
-returns-clause-told c = tells c.args.self.now.state c.args.self.now.made c.args.t c.next_of-event.result c.thread.ensures.lawful (event (goal.at.returns-clause-told c).After-boost_within) c.boost_within.ensures
+returns-clause-told c = tells c.args.self.now.state c.args.self.now.made c.args.t c.event_of-event.result c.thread.ensures.lawful (event (goal.at.returns-clause-told c).After-boost_within) c.boost_within.ensures
 
 pub returns-clause-local : goal.returns-clause-local
-returns-clause-local c = stays_next c.args.self.now.state c.args.t c.next_of-event.result (event (goal.at.returns-clause-local c).After-boost_within)
+returns-clause-local c = stays_next c.args.self.now.state c.args.t c.event_of-event.result (event (goal.at.returns-clause-local c).After-boost_within)
 
 pub returns-clause-none : goal.returns-clause-none
 returns-clause-none c = λ is s thread task. none c.args.self.now.state s c.args.t (sym (event (goal.at.returns-clause-none c).After-boost_within) ∙ is) thread task

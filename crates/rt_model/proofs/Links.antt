@@ -89,14 +89,15 @@ module _ (s : State) (made : ℕ) (t : TaskId) (route : Route) (u : TaskId) (l :
       let cursor = cond (nat_eq u.0 v.0) (rekeyed owner) owner in
       cond (owned_by link_woken v) (lock_woken (spins (kind_of (thread_part s t) l)) cursor) cursor
 
-  slots : SlotsThere (touched link_made.kind link_made) (length s.tasks)
-  slots =
+  -- the tasks that it names are there
+  pub link-slots : SlotsThere (touched link_made.kind link_made) (length s.tasks)
+  link-slots =
       let names = subst (IsWithin (length s.threads) (length s.locks)) is.event (within s made t e lawful (by_walk route u (is_walk l key is))) in
       slots_there s link_made lawful.shape names.owner names.other names.woken
 
   pub link-task : (v : TaskId) → task_part (state_after s e) v ≡ link_task v (task_part s v)
   link-task v =
-      slots-made (λ task. task ≡ task_part s v) (λ task. task ≡ owner) (λ task. task ≡ cursor) (λ task. task ≡ link_task v (task_part s v)) s e link_made v is.event slots refl (λ task same. same) (record {
+      slots-made (λ task. task ≡ task_part s v) (λ task. task ≡ owner) (λ task. task ≡ cursor) (λ task. task ≡ link_task v (task_part s v)) s e link_made v is.event link-slots refl (λ task same. same) (record {
         owner = λ task same its. ap link_owner same ∙ sym (cond-true (owned_by (owner_part s l).owner v) (link_owner (task_part s v)) (task_part s v) its);
         not_owner = λ task same its. same ∙ sym (cond-false (owned_by (owner_part s l).owner v) (link_owner (task_part s v)) (task_part s v) its);
         other = λ task same its. ap rekeyed same ∙ sym (cond-true (nat_eq u.0 v.0) (rekeyed owner) owner its);

@@ -131,8 +131,8 @@ module _ (s : State) (made : ℕ) (t : TaskId) (e : Event) (u : TaskId) (lawful 
       ∙ sym (cond-false (nat_eq t.0 u.0) (top_key rows) None others)))
 
   -- who owns a lock has room for what it keeps of it
-  owner-room : (l : LockId) → l.0 < length s.locks → owned_by (owner_part s l).owner u ≡ true → l.0 < length (task_part s u).kept
-  owner-room l lt its = kept_room s u l lawful.shape (owner-holds (λ v. v.0 < length s.threads) (owner_part s l).owner u (owner_within s l lawful.shape lt) its) lt
+  owned_room : (l : LockId) → l.0 < length s.locks → owned_by (owner_part s l).owner u ≡ true → l.0 < length (task_part s u).kept
+  owned_room l lt its = kept_room s u l lawful.shape (owner-holds (λ v. v.0 < length s.threads) (owner_part s l).owner u (owner_within s l lawful.shape lt) its) lt
 
   wait-here : (l : LockId) → IsWait s t l e → KeepsTop l u (queued t (effective_of (task_part s t)) (owner_part s l)) (task_part (state_after s e) u)
   wait-here l is =
@@ -142,7 +142,7 @@ module _ (s : State) (made : ℕ) (t : TaskId) (e : Event) (u : TaskId) (lawful 
       let kept = (task_part s u).kept in
       owner-made (λ task. kept_of task l ≡ cond (owned_by owner u) (top_key rows) None) (λ task. task.kept ≡ kept) s e _ u is.event (owner_room s l lawful.shape is.at.served) refl
       (λ task was. (blocked_on-like (Some l) rest task).kept ∙ was)
-      (λ task was mine. with_top-here l (top_key rows) task (subst (λ (old : List (Option ℕ)). l.0 < length old) (sym was) (owner-room l is.at.served mine)) ∙ sym (cond-true (owned_by owner u) (top_key rows) None mine))
+      (λ task was mine. with_top-here l (top_key rows) task (subst (λ (old : List (Option ℕ)). l.0 < length old) (sym was) (owned_room l is.at.served mine)) ∙ sym (cond-true (owned_by owner u) (top_key rows) None mine))
       (λ task was others. kept-same l (task_part s u) task was ∙ (lawful.kept l u ∙ (cond-false (owned_by owner u) (top_key (owner_part s l).rows) None others ∙ sym (cond-false (owned_by owner u) (top_key rows) None others))))
       (λ task was. was) (λ task was. was)
 
@@ -163,7 +163,7 @@ module _ (s : State) (made : ℕ) (t : TaskId) (e : Event) (u : TaskId) (lawful 
       refreshed-or_not : (b : Bool) → owned_by owner u ≡ b → kept_of (cond b (refreshed_where_changed (Some l) before after (task_part s u)) (task_part s u)) l ≡ cond b (top_key after) None
       refreshed-or_not true mine =
           cond_both (top_changed before after) (refreshed (Some l) after (task_part s u)) (task_part s u) (λ (task : TaskPart). kept_of task l ≡ top_key after)
-          (λ changed. with_top-here l (top_key after) (task_part s u) (owner-room l (walk-link s made t route cursor l key e lawful is).lock mine))
+          (λ changed. with_top-here l (top_key after) (task_part s u) (owned_room l (walk-link s made t route cursor l key e lawful is).lock mine))
           (λ same. lawful.kept l u ∙ (cond-true (owned_by owner u) (top_key before) None mine ∙ sym (unchanged-key before after same)))
       refreshed-or_not false others = lawful.kept l u ∙ cond-false (owned_by owner u) (top_key before) None others
 

@@ -1,5 +1,5 @@
 -- What a link of a walk leaves, a walk's end, and a setprio.
-use Rattle.std.proofs.Common.{◌≡◌, ℕ, ◌<◌, Bool, true, false, cond, length, refl, sym, ap, ◌∙◌, subst, Option, Some, None, IfSome, ◌&&◌, is_none}
+use Rattle.std.proofs.Common.{◌≡◌, ℕ, ◌<◌, Bool, true, false, cond, List, length, refl, sym, ap, ◌∙◌, subst, Option, Some, None, IfSome, ◌&&◌, is_none}
 use Rattle.std.specs.Prelude.{nat_eq}
 use Rattle.std.proofs.lemmas.Bool.{cond-true, cond-false, cond_both}
 use Rattle.rt_base.specs.Kind.{spins}
@@ -10,6 +10,7 @@ use Rattle.rt_model.specs.declared.event.Event.{Event}
 use Rattle.rt_model.specs.declared.phase.Phase.{Phase}
 use Rattle.rt_model.specs.declared.phase.Route.{Route}
 use Rattle.rt_model.specs.declared.phase.Route.TheVariants.{Short}
+use Rattle.rt_model.specs.declared.row.Row.{Row}
 use Rattle.rt_model.specs.Parts.{OwnerPart, TaskPart, ThreadPart, effective_of, kind_of}
 use Rattle.rt_model.specs.Rows.{top_changed, top_task}
 use Rattle.rt_model.specs.State.{State, shared, task_at, owner_part, task_part, thread_part}
@@ -24,6 +25,7 @@ use Rattle.rt_model.specs.StateAfter.{thread_after, state_after}
 use Rattle.rt_model.specs.laws.Lawful.{IsLawful}
 use Rattle.rt_model.specs.laws.Owners.{owned_by}
 use Rattle.rt_model.specs.laws.Shape.{IsShaped, IsWithin}
+use Rattle.rt_model.proofs.CellStepLemmas.{IsLike, IsWoken, lock_woken-like, rekeyed-like, rekeyed-at, where_changed-blocked}
 use Rattle.rt_model.proofs.NextEvents.{by_walk}
 use Rattle.rt_model.proofs.Named.{within}
 use Rattle.rt_model.proofs.Numbers.{number_itself, other_way}
@@ -87,14 +89,15 @@ module _ (s : State) (made : ℕ) (t : TaskId) (route : Route) (u : TaskId) (l :
       let cursor = cond (nat_eq u.0 v.0) (rekeyed owner) owner in
       cond (owned_by link_woken v) (lock_woken (spins (kind_of (thread_part s t) l)) cursor) cursor
 
-  slots : SlotsThere (touched link_made.kind link_made) (length s.tasks)
-  slots =
+  -- the tasks that it names are there
+  pub link-slots : SlotsThere (touched link_made.kind link_made) (length s.tasks)
+  link-slots =
       let names = subst (IsWithin (length s.threads) (length s.locks)) is.event (within s made t e lawful (by_walk route u (is_walk l key is))) in
       slots_there s link_made lawful.shape names.owner names.other names.woken
 
   pub link-task : (v : TaskId) → task_part (state_after s e) v ≡ link_task v (task_part s v)
   link-task v =
-      slots-made (λ task. task ≡ task_part s v) (λ task. task ≡ owner) (λ task. task ≡ cursor) (λ task. task ≡ link_task v (task_part s v)) s e link_made v is.event slots refl (λ task same. same) (record {
+      slots-made (λ task. task ≡ task_part s v) (λ task. task ≡ owner) (λ task. task ≡ cursor) (λ task. task ≡ link_task v (task_part s v)) s e link_made v is.event link-slots refl (λ task same. same) (record {
         owner = λ task same its. ap link_owner same ∙ sym (cond-true (owned_by (owner_part s l).owner v) (link_owner (task_part s v)) (task_part s v) its);
         not_owner = λ task same its. same ∙ sym (cond-false (owned_by (owner_part s l).owner v) (link_owner (task_part s v)) (task_part s v) its);
         other = λ task same its. ap rekeyed same ∙ sym (cond-true (nat_eq u.0 v.0) (rekeyed owner) owner its);
@@ -195,3 +198,47 @@ module _ (s : State) (made : ℕ) (t u : TaskId) (prio : ℕ) (e : Event) (lawfu
   setprio-thread =
       ap (λ (task : TaskPart). answered_with (record (thread_part s t) { phase = phase_of_walk (Short Done) (goes_on (Short Done) (Some u) task) }) (answer_of_walk (Short Done) setprio_next))
       (sym (ap (λ (y : Event). task_part (state_after s y) u) is.event) ∙ setprio-target)
+
+-- ---- what a link leaves of a task, part by part
+
+module _ (s : State) (made : ℕ) (t : TaskId) (route : Route) (u : TaskId) (l : LockId) (key : ℕ) (e : Event) (lawful : IsLawful s made) (is : IsWalk s t route u l key e) where
+  -- a task refreshed, where it owns the lock, and then queued anew, where it is the cursor
+  abbrev pub link_refreshed : TaskId → TaskPart
+  link_refreshed v = cond (owned_by (owner_part s l).owner v) (link_owner s made t route u l key e lawful is (task_part s v)) (task_part s v)
+
+  abbrev link_rekeyed : TaskId → TaskPart
+  link_rekeyed v = cond (nat_eq u.0 v.0) (rekeyed (link_refreshed v)) (link_refreshed v)
+
+  -- whether it is woken changes neither its priorities nor what it is blocked on
+  woken-or_not : (v : TaskId) → IsWoken (link_rekeyed v) (task_part (state_after s e) v)
+  woken-or_not v =
+      let spinning : Bool = spins (kind_of (thread_part s t) l) in
+      subst (IsWoken (link_rekeyed v)) (sym (link-task s made t route u l key e lawful is v))
+      (cond_both (owned_by (link_woken s made t route u l key e lawful is) v) (lock_woken spinning (link_rekeyed v)) (link_rekeyed v) (IsWoken (link_rekeyed v))
+      (λ its. lock_woken-like spinning (link_rekeyed v)) (λ its. record { like = record { own = refl; kept = refl }; blocked = refl }))
+
+  -- its priorities are those of a task that is refreshed or not
+  pub link-like : (v : TaskId) → IsLike (link_refreshed v) (task_part (state_after s e) v)
+  link-like v =
+      let woken = (woken-or_not v).like in
+      let anew = cond_both (nat_eq u.0 v.0) (rekeyed (link_refreshed v)) (link_refreshed v) (IsLike (link_refreshed v)) (λ its. rekeyed-like (link_refreshed v)) (λ its. record { own = refl; kept = refl }) in
+      record { own = woken.own ∙ anew.own; kept = woken.kept ∙ anew.kept }
+
+  -- the cursor is blocked on its lock with its effective priority
+  pub link-blocked : (task_part (state_after s e) u).blocked ≡ Some (l, effective_of (task_part s u))
+  link-blocked = (woken-or_not u).blocked ∙ (ap (λ (task : TaskPart). task.blocked) same ∙ rekeyed-at (task_part s u) l key is.blocked)
+    where
+      unowned : link_refreshed u ≡ task_part s u
+      unowned = cond-false (owned_by (owner_part s l).owner u) (link_owner s made t route u l key e lawful is (task_part s u)) (task_part s u) (walk-link s made t route u l key e lawful is).unowned
+
+      same : link_rekeyed u ≡ rekeyed (task_part s u)
+      same = cond-true (nat_eq u.0 u.0) (rekeyed (link_refreshed u)) (link_refreshed u) (number_itself u.0) ∙ ap rekeyed unowned
+
+  -- and any other task on what it was
+  pub link-blocked_other : (v : TaskId) → nat_eq u.0 v.0 ≡ false → (task_part (state_after s e) v).blocked ≡ (task_part s v).blocked
+  link-blocked_other v ne =
+      let refreshed : TaskPart = link_owner s made t route u l key e lawful is (task_part s v) in
+      let after : List Row = (link_lock s made t route u l key e lawful is).rows in
+      (woken-or_not v).blocked ∙ (ap (λ (task : TaskPart). task.blocked) (cond-false (nat_eq u.0 v.0) (rekeyed (link_refreshed v)) (link_refreshed v) ne)
+      ∙ cond_both (owned_by (owner_part s l).owner v) refreshed (task_part s v) (λ (task : TaskPart). task.blocked ≡ (task_part s v).blocked)
+      (λ its. where_changed-blocked (Some l) (owner_part s l).rows after (task_part s v)) (λ its. refl))

@@ -1,17 +1,21 @@
 -- The rows of a lock, as one comes or goes, and who may take the lock.
-use Rattle.std.proofs.Common.{◌≡◌, ◌≢◌, suc, true, false, cond, not, List, [], ◌∷◌, refl, sym, ap, ◌∙◌, arith, Option, Some, None, All, IfSome, subst, ℕ, ◌<◌, ◌≤◌, min, Bool, unwrap_or}
+use Rattle.std.proofs.Common.{◌≡◌, ◌≢◌, ◌+◌, suc, true, false, cond, not, List, [], ◌∷◌, refl, sym, ap, ◌∙◌, arith, Option, Some, None, All, IfSome, subst, ℕ, ◌<◌, ◌≤◌, min, Bool, unwrap_or}
 use Rattle.std.specs.Prelude.{AllPairs, slice_index_or, nat_eq, option_map, nat_lt, is_some, find, filter}
 use Rattle.std.proofs.lemmas.Bool.{cond_both, not-true, not-false}
 use Rattle.std.proofs.lemmas.Bool.Decides.{nat_tests}
-use Rattle.std.proofs.lemmas.List.Elements.{All-nil, All-head, All-tail, All-cons}
+use Rattle.std.proofs.lemmas.List.Elements.{All-nil, All-head, All-tail, All-cons, All-filter, All-weaker}
 use Rattle.std.proofs.lemmas.List.Kept.{AllPairs-cons, AllPairs-filter}
+use Rattle.rt_base.specs.declared.id.LockId.{LockId}
 use Rattle.rt_base.specs.declared.id.TaskId.{TaskId}
 use Rattle.rt_base.specs.declared.kind.Kind.{Kind}
 use Rattle.rt_model.specs.declared.row.Row.{Row}
-use Rattle.rt_model.specs.Rows.{top_waiter, top_key, better_of, is_of, row_of, queued_key, goes_before, insert_row, without, has_rows, can_take, asked_key, reason_among, reason_before}
+use Rattle.rt_model.specs.Rows.{top_waiter, top_key, better_of, is_of, row_of, queued_key, goes_before, insert_row, without, has_rows, same_row, same_top, top_changed, can_take, asked_key, reason_among, reason_before}
 use Rattle.rt_model.specs.laws.Rows.{IsAhead, IsQueue}
 use Rattle.rt_model.specs.Parts.{OwnerPart, TaskPart, effective_of}
-use Rattle.rt_model.proofs.Numbers.{other_number}
+use Rattle.rt_model.specs.steps.Lock.{requeued}
+use Rattle.rt_model.specs.steps.Chain.{has_old_key, requeued_where_old}
+use Rattle.rt_model.proofs.Numbers.{other_number, number_itself}
+use Rattle.rt_model.proofs.CellStepLemmas.{right_key}
 use Rattle.rt_model.specs.declared.reason.Reason.{Reason}
 use Rattle.rt_model.specs.declared.reason.Reason.TheVariants as reasons
 
@@ -252,3 +256,93 @@ queued_after t kind lock task may none unqueued queue =
     after_top t (effective_of task) lock.ticket kind lock.rows
     (subst (λ (o : Option ℕ). is_some (reason_among t (unwrap_or o (effective_of task)) kind (top_waiter lock.rows)) ≡ false) unqueued (no_reason t kind lock task may none)) queue.tickets
     (λ k d lt. apart t (effective_of task) lock.ticket (slice_index_or lock.rows k d) (others k d lt) (queue.tickets k d lt)) queue.order
+
+-- ---- rows in order, below a ticket
+
+pub record IsOrdered (ticket : ℕ) (rows : List Row) : Type 0 where
+  pub order : AllPairs IsAhead rows
+  pub tickets : All (λ (row : Row). row.ticket < ticket) rows
+
+-- with one more, of a task that has none, with that ticket
+pub insert-ordered : (t : TaskId) (key ticket : ℕ) (rows : List Row) → All (λ (row : Row). is_of t row ≡ false) rows → IsOrdered ticket rows
+    → IsOrdered (ticket + 1) (insert_row (record { key = key; ticket = ticket; who = t.0 }) rows)
+insert-ordered t key ticket rows others is =
+    let row : Row = record { key = key; ticket = ticket; who = t.0 } in
+    record {
+      order = insert_order row rows (λ k d lt. apart t key ticket (slice_index_or rows k d) (others k d lt) (is.tickets k d lt)) is.order;
+      tickets = All-insert_row (λ (r : Row). r.ticket < ticket + 1) row rows (omega arith)
+          (All-weaker (λ (r : Row). r.ticket < ticket) (λ (r : Row). r.ticket < ticket + 1) (λ r lt. omega arith) rows is.tickets);
+    }
+
+-- with those of a task gone
+pub without-ordered : (t : TaskId) (ticket : ℕ) (rows : List Row) → IsOrdered ticket rows → IsOrdered ticket (without t rows)
+without-ordered t ticket rows is = record {
+  order = AllPairs-filter IsAhead (λ row. not (is_of t row)) rows is.order;
+  tickets = All-filter (λ row. not (is_of t row)) (λ (row : Row). row.ticket < ticket) rows is.tickets;
+}
+
+pub queue-ordered : (lock : OwnerPart) → IsQueue lock → IsOrdered lock.ticket lock.rows
+queue-ordered lock queue = record { order = queue.order; tickets = queue.tickets }
+
+-- ---- a task that is queued anew
+
+pub none-without : (t : TaskId) (rows : List Row) → All (λ (row : Row). is_of t row ≡ false) (without t rows)
+none-without t rows = none_of t (without t rows) (ap (option_map (λ (row : Row). row.key)) (row_of-without t rows))
+
+module _ (t : TaskId) (key : ℕ) (lock : OwnerPart) where
+  -- its row is the new one, and that of any other task the one that it was
+  pub row_of-requeued : row_of t (requeued t key lock).rows ≡ Some (record { key = key; ticket = lock.ticket; who = t.0 })
+  row_of-requeued = row_of-insert t (record { key = key; ticket = lock.ticket; who = t.0 }) (without t lock.rows) (number_itself t.0) (none-without t lock.rows)
+
+  pub row_of-requeued_other : (u : TaskId) → nat_eq t.0 u.0 ≡ false → row_of u (requeued t key lock).rows ≡ row_of u lock.rows
+  row_of-requeued_other u ne = row_of-insert_other u (record { key = key; ticket = lock.ticket; who = t.0 }) (without t lock.rows) ne ∙ row_of-without_other t u lock.rows ne
+
+  -- the bit is set where it was queued
+  requeued-clear : (old : ℕ) → queued_key t lock.rows ≡ Some old → IsQueue lock → lock.bit ≡ false → (requeued t key lock).rows ≡ []
+  requeued-clear old was queue clear = let none : queued_key t lock.rows ≡ None = ap (queued_key t) (queue.clear clear) in absurd cc
+
+  pub requeued-queue : (old : ℕ) → queued_key t lock.rows ≡ Some old → IsQueue lock → IsQueue (requeued t key lock)
+  requeued-queue old was queue =
+      let ordered = insert-ordered t key lock.ticket (without t lock.rows) (none-without t lock.rows) (without-ordered t lock.ticket lock.rows (queue-ordered lock queue)) in
+      record { clear = requeued-clear old was queue; order = ordered.order; tickets = ordered.tickets }
+
+-- ---- the same where its key is old
+
+module _ (t : TaskId) (task : TaskPart) (lock : OwnerPart) where
+  pub where_old-queue : (old : ℕ) → queued_key t lock.rows ≡ Some old → IsQueue lock → IsQueue (requeued_where_old (Some t) task lock)
+  where_old-queue old was queue =
+      cond_both (has_old_key task) (requeued t (effective_of task) lock) lock IsQueue (λ is. requeued-queue t (effective_of task) lock old was queue) (λ is. queue)
+
+  -- it is queued with its effective priority then
+  pub where_old-key : (l : LockId) (old : ℕ) → task.blocked ≡ Some (l, old) → queued_key t lock.rows ≡ Some old → queued_key t (requeued_where_old (Some t) task lock).rows ≡ Some (effective_of task)
+  where_old-key l old at was =
+      cond_both (has_old_key task) (requeued t (effective_of task) lock) lock (λ (x : OwnerPart). queued_key t x.rows ≡ Some (effective_of task))
+      (λ is. ap (option_map (λ (r : Row). r.key)) (row_of-requeued t (effective_of task) lock))
+      (λ is. was ∙ ap Some (right_key task l old at is))
+
+  pub where_old-other : (u : TaskId) → nat_eq t.0 u.0 ≡ false → row_of u (requeued_where_old (Some t) task lock).rows ≡ row_of u lock.rows
+  where_old-other u ne =
+      cond_both (has_old_key task) (requeued t (effective_of task) lock) lock (λ (x : OwnerPart). row_of u x.rows ≡ row_of u lock.rows)
+      (λ is. row_of-requeued_other t (effective_of task) lock u ne) (λ is. refl)
+
+-- ---- the top waiter is another, or not
+
+same_row-is : (row other : Row) → same_row row other ≡ true → other ≡ row
+same_row-is row other is =
+    let key : other.key ≡ row.key = grind (arith, nat_tests) in
+    let ticket : other.ticket ≡ row.ticket = grind (arith, nat_tests) in
+    let who : other.who ≡ row.who = grind (arith, nat_tests) in
+    λ i. record { key = key i; ticket = ticket i; who = who i }
+
+same_top-is : (top other : Option Row) → same_top top other ≡ true → other ≡ top
+same_top-is None None is = refl
+same_top-is (Some row) (Some other) is = ap Some (same_row-is row other is)
+same_top-is None (Some other) is = cc
+same_top-is (Some row) None is = cc
+
+-- where it isn't, the top waiter and its key are what they were
+pub unchanged-waiter : (before after : List Row) → top_changed before after ≡ false → top_waiter after ≡ top_waiter before
+unchanged-waiter before after is = same_top-is (top_waiter before) (top_waiter after) (not-false (same_top (top_waiter before) (top_waiter after)) is)
+
+pub unchanged-key : (before after : List Row) → top_changed before after ≡ false → top_key after ≡ top_key before
+unchanged-key before after is = ap (option_map (λ (row : Row). row.key)) (unchanged-waiter before after is)

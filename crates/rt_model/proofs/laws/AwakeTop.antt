@@ -1,7 +1,7 @@
 -- A next event keeps the awake-top law.
-use Rattle.std.proofs.Common.{◌≡◌, ◌≢◌, ℕ, ◌<◌, Bool, false, cond, List, length, refl, sym, ap, ◌∙◌, subst, arith, Option, Some, None, IfSome}
-use Rattle.std.specs.Prelude.{nat_eq, option_map, slice_get, unwrap_or}
-use Rattle.std.proofs.lemmas.Bool.{cond_both}
+use Rattle.std.proofs.Common.{◌≡◌, ◌≢◌, ℕ, Bool, true, false, cond, ◌&&◌, is_none, List, length, refl, sym, ap, ◌∙◌, subst, arith, Option, Some, None, IfSome}
+use Rattle.std.specs.Prelude.{nat_eq, option_map}
+use Rattle.std.proofs.lemmas.Bool.{cond_both, cond-true, and_from}
 use Rattle.std.proofs.lemmas.Bool.Decides.{nat_tests}
 use Rattle.rt_base.specs.Kind.{spins}
 use Rattle.rt_base.specs.declared.call.Call.TheVariants as calls
@@ -10,28 +10,35 @@ use Rattle.rt_base.specs.declared.id.TaskId.{TaskId}
 use Rattle.rt_base.specs.declared.state.TaskState.{TaskState}
 use Rattle.rt_base.specs.declared.state.TaskState.TheVariants as states
 use Rattle.rt_model.specs.declared.event.Event.{Event}
+use Rattle.rt_model.specs.declared.phase.Route.{Route}
 use Rattle.rt_model.specs.declared.row.Row.{Row}
-use Rattle.rt_model.specs.Parts.{OwnerPart, TaskPart, effective_of, kind_of}
-use Rattle.rt_model.specs.Rows.{top_waiter, top_task, task_of, is_of, insert_row}
-use Rattle.rt_model.specs.State.{State, no_task, owner_part, task_part, thread_part}
-use Rattle.rt_model.specs.steps.Task.{with_top, sleeps, woken_up, lock_woken}
-use Rattle.rt_model.specs.StateAfter.{at_task, state_after}
+use Rattle.rt_model.specs.Parts.{OwnerPart, TaskPart, effective_of, kind_of, kind_named}
+use Rattle.rt_model.specs.Rows.{top_waiter, top_task, top_changed, task_of, is_of, insert_row}
+use Rattle.rt_model.specs.State.{State, shared, owner_part, task_part, thread_part}
+use Rattle.rt_model.specs.steps.Task.{sleeps, woken_up, lock_woken}
+use Rattle.rt_model.specs.steps.Chain.{newly_top}
+use Rattle.rt_model.specs.Effect.{Around, around}
+use Rattle.rt_model.specs.events.Release.{give_event}
+use Rattle.rt_model.specs.Rules.{touched}
+use Rattle.rt_model.specs.StateAfter.{effect_in, lock_left, state_after}
 use Rattle.rt_model.specs.laws.AwakeTop.{AwakeTopLaw}
 use Rattle.rt_model.specs.laws.Lawful.{IsLawful}
 use Rattle.rt_model.specs.laws.Owners.{owned_by}
-use Rattle.rt_model.proofs.Lists.{if_some, if_found, length-at_task}
+use Rattle.rt_model.proofs.Lists.{if_some, if_found}
 use Rattle.rt_model.proofs.Named.{top_within}
-use Rattle.rt_model.proofs.NextEvents.{IsNext, by_own, by_acquire, by_wait, by_release}
-use Rattle.rt_model.proofs.events.Acquire.{is_fast, is_mark, is_take}
+use Rattle.rt_model.proofs.NextEvents.{IsNext, by_own, by_acquire, by_wait, by_release, by_walk, by_setprio}
+use Rattle.rt_model.proofs.events.Acquire.{is_fast, is_mark, is_take, is_busy}
 use Rattle.rt_model.proofs.events.Wait.{IsWait, IsAgain, is_wait, is_again}
 use Rattle.rt_model.proofs.events.Release.{IsGive, is_free, is_give}
+use Rattle.rt_model.proofs.events.Walk.{IsWalk, is_walk, is_walkend}
+use Rattle.rt_model.proofs.Links.{slots_there, requeued-owner, link_lock, link-locks, link-slots}
 use Rattle.rt_model.proofs.Numbers.{number_itself, at_each_lock}
-use Rattle.rt_model.proofs.PartsAfter.{lock-kept, lock-made, task-keeps, other-keeps, slot-keeps, slot-left}
-use Rattle.rt_model.proofs.Queues.{none_of, top-at, not_top, queued_after}
+use Rattle.rt_model.proofs.PartsAfter.{OthersKeep, SlotsThere, lock-kept, lock-made, task-keeps, other-keeps, slots-made}
+use Rattle.rt_model.proofs.Queues.{none_of, top-at, not_top, queued_after, unchanged-waiter}
 use Rattle.rt_model.proofs.TaskStates.{HasState, sends_to_sleep, state-own, state-others}
 use Rattle.rt_model.proofs.Waiters.{slow-unqueued, wait-elsewhere}
 use Rattle.rt_model.proofs.Within.{rows_within}
-use Rattle.rt_model.proofs.laws.States.{spins-known}
+use Rattle.rt_model.proofs.laws.States.{spins-known, IsCalm, running-calm}
 
 -- a row that isn't the task's is another's
 others_row : (t : TaskId) (row : Row) → is_of t row ≡ false → nat_eq t.0 row.who ≡ false
@@ -112,37 +119,70 @@ module _ (s : State) (made : ℕ) (t : TaskId) (e : Event) (lawful : IsLawful s 
           (λ there none top. top-at (λ (r : Row). is_of t r ≡ false) (owner_part s m).rows row (none_of t (owner_part s m).rows (lawful.rows.rows m t ∙ wait-elsewhere s made t lawful l m is.at there)) top)
           none top
 
-  -- the top waiter of a lock that is given up is woken
+  -- a task that an event x wakes runs afterwards, whatever else becomes of it
+  woken-runs : (x : Event) (v : TaskId) → e ≡ x → sends_to_sleep x.kind ≡ false → SlotsThere (touched x.kind x) (length s.tasks) → (touched x.kind x).woken ≡ Some v
+      → ((lock : OwnerPart) (task : TaskPart) → (effect_in (shared s) (thread_part s x.task) x).woken lock task ≡ lock_woken (spins (kind_named (thread_part s x.task) x.lock)) task)
+      → (task_part (state_after s e) v).state ≡ states.Running
+  woken-runs x v is awake there named wakes =
+      slots-made (HasState IsCalm) (HasState IsCalm) (HasState IsCalm) Awake s e x v is there (record { state = lawful.states.state v; saved = lawful.states.saved v })
+      (state-own IsCalm running-calm x.kind x (thread_part s x.task) awake found lock) (record {
+        owner = λ task calm its. others.owner task calm;
+        not_owner = λ task calm its. calm;
+        other = λ task calm its. others.other task calm;
+        not_other = λ task calm its. calm;
+        woken = λ task calm its. subst Awake (sym (wakes lock task)) (runs task calm.state);
+        not_woken = λ task calm its. absurd (names its);
+      })
+    where
+      Awake : TaskPart → Type 0
+      Awake task = task.state ≡ states.Running
+
+      found : Around
+      found = around (shared s) (touched x.kind x)
+
+      lock : OwnerPart
+      lock = lock_left (shared s) (thread_part s x.task) x
+
+      others : OthersKeep (HasState IsCalm) (effect_in (shared s) (thread_part s x.task) x) lock
+      others = state-others IsCalm running-calm x.kind x (thread_part s x.task) found lock
+
+      runs : (task : TaskPart) → IsCalm task.state → Awake (lock_woken (spins (kind_named (thread_part s x.task) x.lock)) task)
+      runs task calm = subst (λ (b : Bool). Awake (lock_woken b task)) (sym (spins-known s x.task x.lock lawful.stage)) (woken_up-runs task calm)
+
+      names : owned_by (touched x.kind x).woken v ≡ false → ⊥
+      names asleep =
+          let here : nat_eq v.0 v.0 ≡ false = subst (λ (o : Option TaskId). owned_by o v ≡ false) named asleep in
+          let itself = number_itself v.0 in cc
+
+  -- so the top waiter of a lock that is given up
   give-here : (l : LockId) → IsGive s t l e → (row : Row) → top_waiter (owner_part s l).rows ≡ Some row → Runs (state_after s e) row
   give-here l is row top =
-      subst (λ (x : Event). Runs (state_after s x) row) (sym is.event)
-      (slot-left (λ (task : TaskPart). task.state ≡ states.Running) given (top_task rows) (task_of row) (lock_woken spinning) there
-      (λ woken. subst (λ (b : Bool). (lock_woken b task).state ≡ states.Running) (sym (spins-known s t (Some l) lawful.stage)) (woken_up-runs task waits)) (λ asleep. absurd (not_woken asleep)))
+      woken-runs _ (task_of row) is.event refl
+      (slots_there s (give_event t l (owner_part s l) (task_part s t)) lawful.shape tt tt (top_within (length s.threads) (owner_part s l).rows (rows_within s l lawful.shape is.at.served)))
+      (ap (option_map task_of) top) (λ lock task. refl)
+
+  -- and one that a link of a walk makes the top waiter; else that is who it was
+  walk-here : (route : Route) (u : TaskId) (l : LockId) (key : ℕ) (is : IsWalk s t route u l key e) → HasAwakeTop (state_after s e) (link_lock s made t route u l key e lawful is)
+  walk-here route u l key is none = by_top (top_changed before after.rows) refl
     where
-      rows : List Row
-      rows = (owner_part s l).rows
+      before : List Row
+      before = (owner_part s l).rows
 
-      spinning : Bool
-      spinning = spins (kind_of (thread_part s t) l)
+      after : OwnerPart
+      after = link_lock s made t route u l key e lawful is
 
-      given : List TaskPart
-      given = at_task s.tasks (Some t) (with_top (Some l) None)
+      newly : top_changed before after.rows ≡ true → (row : Row) → top_waiter after.rows ≡ Some row → newly_top (owner_part s l) after ≡ Some (task_of row)
+      newly changed row top =
+          cond-true (is_none after.owner && top_changed before after.rows) (top_task after.rows) None (and_from (is_none after.owner) (top_changed before after.rows) (ap is_none none) changed)
+          ∙ ap (option_map task_of) top
 
-      task : TaskPart
-      task = unwrap_or (slice_get given row.who) no_task
-
-      waits : task.state ≢ states.LockWait
-      waits = slot-keeps (λ (other : TaskPart). other.state ≢ states.LockWait) s.tasks (Some t) (task_of row) (with_top (Some l) None) (lawful.states.state (task_of row)) (λ other was. was)
-
-      there : IfSome (top_task rows) (λ u. u.0 < length given)
-      there =
-          subst (λ (n : ℕ). IfSome (top_task rows) (λ u. u.0 < n)) (sym (length-at_task s.tasks (Some t) (with_top (Some l) None) ∙ lawful.shape.tasks))
-          (top_within (length s.threads) rows (rows_within s l lawful.shape is.at.served))
-
-      not_woken : owned_by (top_task rows) (task_of row) ≡ false → ⊥
-      not_woken asleep =
-          let here : nat_eq row.who row.who ≡ false = subst (λ (o : Option Row). owned_by (option_map task_of o) (task_of row) ≡ false) top asleep in
-          let itself = number_itself row.who in cc
+      by_top : (b : Bool) → top_changed before after.rows ≡ b → IfSome (top_waiter after.rows) (Runs (state_after s e))
+      by_top true changed =
+          if_found (top_waiter after.rows) (Runs (state_after s e))
+          (λ row top. woken-runs _ (task_of row) is.event refl (link-slots s made t route u l key e lawful is) (newly changed row top) (λ lock task. refl))
+      by_top false same =
+          subst (λ (o : Option Row). IfSome o (Runs (state_after s e))) (sym (unchanged-waiter before after.rows same))
+          (all_awake _ l is.event refl (sym (requeued-owner (Some u) (task_part s u) (owner_part s l)) ∙ none))
 
 -- awake-top law
 pub AwakeTopLaw-next : (s : State) (made : ℕ) (t : TaskId) (e : Event) → IsLawful s made → IsNext s t e → AwakeTopLaw (state_after s e)
@@ -156,6 +196,11 @@ AwakeTopLaw-next s made t e lawful next m = by_kind next
     by_kind (by_acquire l (is_mark is)) = lock-kept (Awake m) s e _ m is.event (all_awake s made t e lawful _ m is.event refl) (λ lock was. was)
     by_kind (by_acquire l (is_fast is)) = lock-kept (Awake m) s e _ m is.event (all_awake s made t e lawful _ m is.event refl) (λ lock was none. absurd cc)
     by_kind (by_acquire l (is_take is)) = lock-kept (Awake m) s e _ m is.event (all_awake s made t e lawful _ m is.event refl) (λ lock was none. absurd cc)
+    by_kind (by_acquire l (is_busy is)) = lock-kept (Awake m) s e _ m is.event (all_awake s made t e lawful _ m is.event refl) (λ lock was. was)
+    by_kind (by_walk route u (is_walkend is)) = lock-kept (Awake m) s e _ m is.event (all_awake s made t e lawful _ m is.event refl) (λ lock was. was)
+    by_kind (by_setprio u prio is) = lock-kept (Awake m) s e _ m is.event (all_awake s made t e lawful _ m is.event refl) (λ lock was. was)
+    by_kind (by_walk route u (is_walk l key is)) =
+        link-locks s made t route u l key e lawful is Awake m (walk-here s made t e lawful route u l key is) (λ there. all_awake s made t e lawful _ m is.event refl)
     by_kind (by_wait l (is_wait is)) = lock-made Awake s e _ l m is.event refl is.at.served (wait-here s made t e lawful l is) (λ there. wait-awake s made t e lawful l m is)
     by_kind (by_wait l (is_again is)) = lock-kept (Awake m) s e _ m is.event (again-awake s made t e lawful l m is) (λ lock was. was)
     by_kind (by_release l (is_free is)) =

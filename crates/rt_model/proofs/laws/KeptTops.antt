@@ -1,34 +1,39 @@
 -- A next event keeps the kept-tops law.
 use Rattle.std.proofs.Common.{◌≡◌, ℕ, ◌<◌, Bool, true, false, cond, List, [], length, refl, sym, ap, ◌∙◌, subst, Option, Some, None, unwrap_or, IfSome}
 use Rattle.std.specs.Prelude.{nat_eq, slice_get, if◌then◌else◌}
-use Rattle.std.proofs.lemmas.Bool.{cond-true, cond-false}
+use Rattle.std.proofs.lemmas.Bool.{cond-true, cond-false, cond_both}
 use Rattle.rt_base.specs.Kind.{spins}
 use Rattle.rt_base.specs.declared.id.LockId.{LockId}
 use Rattle.rt_base.specs.declared.id.TaskId.{TaskId}
 use Rattle.rt_model.specs.declared.event.Event.{Event}
 use Rattle.rt_model.specs.declared.event_kind.EventKind.{EventKind}
 use Rattle.rt_model.specs.declared.event_kind.EventKind.TheVariants as kinds
+use Rattle.rt_model.specs.declared.phase.Route.{Route}
 use Rattle.rt_model.specs.declared.row.Row.{Row}
 use Rattle.rt_model.specs.Parts.{OwnerPart, TaskPart, ThreadPart, call_of, effective_of, kind_of, kind_named}
-use Rattle.rt_model.specs.Rows.{top_key, without}
+use Rattle.rt_model.specs.Rows.{top_key, top_changed, without}
 use Rattle.rt_model.specs.State.{State, shared, owner_part, task_part, thread_part}
-use Rattle.rt_model.specs.steps.Task.{with_top, rest_of, blocked_on, leave_queue, lock_woken}
+use Rattle.rt_model.specs.steps.Task.{with_top, refreshed, rest_of, blocked_on, leave_queue, lock_woken}
 use Rattle.rt_model.specs.steps.Lock.{taken_by, queued}
+use Rattle.rt_model.specs.steps.Chain.{requeued_where_old, refreshed_where_changed}
 use Rattle.rt_model.specs.Effect.{Around}
 use Rattle.rt_model.specs.Rules.{touched, effect}
 use Rattle.rt_model.specs.StateAfter.{effect_in, state_after}
 use Rattle.rt_model.specs.laws.Lawful.{IsLawful}
 use Rattle.rt_model.specs.laws.KeptTops.{KeptTopsLaw, kept_of}
 use Rattle.rt_model.specs.laws.Owners.{owned_by}
-use Rattle.rt_model.proofs.CellStepLemmas.{leave_queue-like, lock_woken-like, blocked_on-like}
-use Rattle.rt_model.proofs.NextEvents.{IsNext, by_own, by_acquire, by_wait, by_release}
-use Rattle.rt_model.proofs.events.Acquire.{IsTake, is_fast, is_mark, is_take}
+use Rattle.rt_model.proofs.CellStepLemmas.{leave_queue-like, lock_woken-like, blocked_on-like, where_changed}
+use Rattle.rt_model.proofs.NextEvents.{IsNext, by_own, by_acquire, by_wait, by_release, by_walk, by_setprio}
+use Rattle.rt_model.proofs.events.Acquire.{IsTake, is_fast, is_mark, is_take, is_busy}
 use Rattle.rt_model.proofs.events.Wait.{IsWait, is_wait, is_again}
 use Rattle.rt_model.proofs.events.Release.{IsGive, is_free, is_give}
+use Rattle.rt_model.proofs.events.Walk.{IsWalk, is_walk, is_walkend}
+use Rattle.rt_model.proofs.Links.{requeued-owner, link_refreshed, link-like}
 use Rattle.rt_model.proofs.PartsAfter.{read-set_same, read-set_other, OthersKeep, lock-made, lock-kept, task-keeps, own-made, owner-made}
 use Rattle.rt_model.proofs.Within.{owner_within, owner_room, kept_room, task_room}
 use Rattle.rt_model.proofs.Numbers.{one_owner, owner-holds, number_itself}
-use Rattle.rt_model.proofs.Queues.{unowned-can_take}
+use Rattle.rt_model.proofs.Queues.{unowned-can_take, unchanged-key}
+use Rattle.rt_model.proofs.Waiters.{walk-link}
 
 -- ---- what is kept of one lock
 
@@ -59,6 +64,7 @@ abbrev tops_of : EventKind → Event → Option LockId
 tops_of kinds.Take e = e.lock
 tops_of kinds.Wait e = e.lock
 tops_of kinds.Give e = e.lock
+tops_of kinds.Walk e = e.lock
 tops_of _ e = None
 
 there-own : (m : LockId) (top : Option ℕ) (kind : EventKind) (e : Event) (th : ThreadPart) → IsApartFrom m (tops_of kind e)
@@ -73,6 +79,13 @@ there-own m top _ e th ne found lock task was = was
 
 there-others : (m : LockId) (top : Option ℕ) (kind : EventKind) (e : Event) (th : ThreadPart) → IsApartFrom m (tops_of kind e) → (found : Around) (lock : OwnerPart) → OthersKeep (λ task. kept_of task m ≡ top) (effect kind e th found) lock
 there-others m top kinds.Wait e th ne found lock = record { owner = λ task was. with_top-there e.lock m (top_key lock.rows) task ne ∙ was; other = λ task was. was; woken = λ task was. was }
+there-others m top kinds.Walk e th ne found lock =
+    let spinning : Bool = spins (kind_named th e.lock) in
+    record {
+      owner = λ task was. where_changed (λ (x : TaskPart). kept_of x m ≡ top) e.lock found.lock.rows lock.rows task was (with_top-there e.lock m (top_key lock.rows) task ne ∙ was);
+      other = λ task was. was;
+      woken = λ task was. kept-same m task (lock_woken spinning task) (lock_woken-like spinning task).like.kept ∙ was;
+    }
 there-others m top kinds.Give e th ne found lock =
     let spinning : Bool = spins (kind_named th e.lock) in
     record { owner = λ task was. was; other = λ task was. was; woken = λ task was. kept-same m task (lock_woken spinning task) (lock_woken-like spinning task).like.kept ∙ was }
@@ -83,6 +96,7 @@ apart-on : (m l : LockId) (kind : EventKind) (e : Event) → e.lock ≡ Some l �
 apart-on m l kinds.Take e on ne = subst (IsApartFrom m) (sym on) ne
 apart-on m l kinds.Wait e on ne = subst (IsApartFrom m) (sym on) ne
 apart-on m l kinds.Give e on ne = subst (IsApartFrom m) (sym on) ne
+apart-on m l kinds.Walk e on ne = subst (IsApartFrom m) (sym on) ne
 apart-on m l _ e on ne = tt
 
 -- ---- the law
@@ -110,11 +124,15 @@ module _ (s : State) (made : ℕ) (t : TaskId) (e : Event) (u : TaskId) (lawful 
       let rows : List Row = without t (owner_part s l).rows in
       let spinning : Bool = spins (kind_of (thread_part s t) l) in
       let left : TaskPart = leave_queue spinning (task_part s t) in
-      let room : l.0 < length left.kept = subst (λ (kept : List (Option ℕ)). l.0 < length kept) (sym (leave_queue-like spinning (task_part s t)).kept) (kept_room s t l lawful.shape is.at.task is.at.served) in
-      own-made (λ v task. kept_of task l ≡ cond (nat_eq t.0 v.0) (top_key rows) None) s e _ t u is.event refl (task_room s t lawful.shape is.at.task) (record { owner = λ task was. was; other = λ task was. was; woken = λ task was. was })
+      let room : l.0 < length left.kept = subst (λ (kept : List (Option ℕ)). l.0 < length kept) (sym (leave_queue-like spinning (task_part s t)).kept) (kept_room s t l lawful.shape is.task is.lock) in
+      own-made (λ v task. kept_of task l ≡ cond (nat_eq t.0 v.0) (top_key rows) None) s e _ t u is.event refl (task_room s t lawful.shape is.task) (record { owner = λ task was. was; other = λ task was. was; woken = λ task was. was })
       (with_top-here l (top_key rows) left room ∙ sym (cond-true (nat_eq t.0 t.0) (top_key rows) None (number_itself t.0)))
       (λ others. lawful.kept l u ∙ (ap (λ (o : Option TaskId). cond (owned_by o u) (top_key (owner_part s l).rows) None) (unowned-can_take t (kind_of (thread_part s t) l) (owner_part s l) (task_part s t) is.can)
       ∙ sym (cond-false (nat_eq t.0 u.0) (top_key rows) None others)))
+
+  -- who owns a lock has room for what it keeps of it
+  owned_room : (l : LockId) → l.0 < length s.locks → owned_by (owner_part s l).owner u ≡ true → l.0 < length (task_part s u).kept
+  owned_room l lt its = kept_room s u l lawful.shape (owner-holds (λ v. v.0 < length s.threads) (owner_part s l).owner u (owner_within s l lawful.shape lt) its) lt
 
   wait-here : (l : LockId) → IsWait s t l e → KeepsTop l u (queued t (effective_of (task_part s t)) (owner_part s l)) (task_part (state_after s e) u)
   wait-here l is =
@@ -124,10 +142,30 @@ module _ (s : State) (made : ℕ) (t : TaskId) (e : Event) (u : TaskId) (lawful 
       let kept = (task_part s u).kept in
       owner-made (λ task. kept_of task l ≡ cond (owned_by owner u) (top_key rows) None) (λ task. task.kept ≡ kept) s e _ u is.event (owner_room s l lawful.shape is.at.served) refl
       (λ task was. (blocked_on-like (Some l) rest task).kept ∙ was)
-      (λ task was mine. with_top-here l (top_key rows) task (subst (λ (old : List (Option ℕ)). l.0 < length old) (sym was)
-      (kept_room s u l lawful.shape (owner-holds (λ v. v.0 < length s.threads) owner u (owner_within s l lawful.shape is.at.served) mine) is.at.served)) ∙ sym (cond-true (owned_by owner u) (top_key rows) None mine))
+      (λ task was mine. with_top-here l (top_key rows) task (subst (λ (old : List (Option ℕ)). l.0 < length old) (sym was) (owned_room l is.at.served mine)) ∙ sym (cond-true (owned_by owner u) (top_key rows) None mine))
       (λ task was others. kept-same l (task_part s u) task was ∙ (lawful.kept l u ∙ (cond-false (owned_by owner u) (top_key (owner_part s l).rows) None others ∙ sym (cond-false (owned_by owner u) (top_key rows) None others))))
       (λ task was. was) (λ task was. was)
+
+  walk-here : (route : Route) (cursor : TaskId) (l : LockId) (key : ℕ) → IsWalk s t route cursor l key e → KeepsTop l u (requeued_where_old (Some cursor) (task_part s cursor) (owner_part s l)) (task_part (state_after s e) u)
+  walk-here route cursor l key is =
+      kept-same l (link_refreshed s made t route cursor l key e lawful is u) (task_part (state_after s e) u) (link-like s made t route cursor l key e lawful is u).kept
+      ∙ (refreshed-or_not (owned_by owner u) refl ∙ ap (λ (o : Option TaskId). cond (owned_by o u) (top_key after) None) (sym (requeued-owner (Some cursor) (task_part s cursor) (owner_part s l))))
+    where
+      owner : Option TaskId
+      owner = (owner_part s l).owner
+
+      before : List Row
+      before = (owner_part s l).rows
+
+      after : List Row
+      after = (requeued_where_old (Some cursor) (task_part s cursor) (owner_part s l)).rows
+
+      refreshed-or_not : (b : Bool) → owned_by owner u ≡ b → kept_of (cond b (refreshed_where_changed (Some l) before after (task_part s u)) (task_part s u)) l ≡ cond b (top_key after) None
+      refreshed-or_not true mine =
+          cond_both (top_changed before after) (refreshed (Some l) after (task_part s u)) (task_part s u) (λ (task : TaskPart). kept_of task l ≡ top_key after)
+          (λ changed. with_top-here l (top_key after) (task_part s u) (owned_room l (walk-link s made t route cursor l key e lawful is).lock mine))
+          (λ same. lawful.kept l u ∙ (cond-true (owned_by owner u) (top_key before) None mine ∙ sym (unchanged-key before after same)))
+      refreshed-or_not false others = lawful.kept l u ∙ cond-false (owned_by owner u) (top_key before) None others
 
   give-here : (l : LockId) → IsGive s t l e → kept_of (task_part (state_after s e) u) l ≡ None
   give-here l is =
@@ -148,13 +186,18 @@ KeptTopsLaw-next s made t e lawful next m u = by_kind next
     by_kind (by_own call answer is) = lock-kept Keeps s e _ m is.event (same s made t e u lawful _ m is.event tt) (λ lock was. was)
     by_kind (by_acquire l (is_mark is)) = lock-kept Keeps s e _ m is.event (same s made t e u lawful _ m is.event tt) (λ lock was. was)
     by_kind (by_wait l (is_again is)) = lock-kept Keeps s e _ m is.event (same s made t e u lawful _ m is.event tt) (λ lock was. was)
+    by_kind (by_acquire l (is_busy is)) = lock-kept Keeps s e _ m is.event (same s made t e u lawful _ m is.event tt) (λ lock was. was)
+    by_kind (by_walk route cursor (is_walkend is)) = lock-kept Keeps s e _ m is.event (same s made t e u lawful _ m is.event tt) (λ lock was. was)
+    by_kind (by_setprio target prio is) = lock-kept Keeps s e _ m is.event (same s made t e u lawful _ m is.event tt) (λ lock was. was)
     by_kind (by_acquire l (is_fast is)) =
         let none : (owner_part s l).rows ≡ [] = (lawful.rows.queue l).clear is.bit in
-        on_lock s made t e u lawful _ l m is.event refl refl is.at.served
+        on_lock s made t e u lawful _ l m is.event refl refl is.lock
         (same s made t e u lawful _ l is.event tt ∙ (nothing (owner_part s l).rows (owned_by (owner_part s l).owner u) none ∙ sym (nothing (owner_part s l).rows (nat_eq t.0 u.0) none)))
     by_kind (by_release l (is_free is)) =
         let none : (owner_part s l).rows ≡ [] = (lawful.rows.queue l).clear is.bit in
         on_lock s made t e u lawful _ l m is.event refl refl is.at.served (same s made t e u lawful _ l is.event tt ∙ nothing (owner_part s l).rows (owned_by (owner_part s l).owner u) none)
-    by_kind (by_acquire l (is_take is)) = on_lock s made t e u lawful _ l m is.event refl refl is.at.served (take-here s made t e u lawful l is)
+    by_kind (by_acquire l (is_take is)) = on_lock s made t e u lawful _ l m is.event refl refl is.lock (take-here s made t e u lawful l is)
     by_kind (by_wait l (is_wait is)) = on_lock s made t e u lawful _ l m is.event refl refl is.at.served (wait-here s made t e u lawful l is)
+    by_kind (by_walk route cursor (is_walk l key is)) =
+        on_lock s made t e u lawful _ l m is.event refl refl (walk-link s made t route cursor l key e lawful is).lock (walk-here s made t e u lawful route cursor l key is)
     by_kind (by_release l (is_give is)) = on_lock s made t e u lawful _ l m is.event refl refl is.at.served (give-here s made t e u lawful l is)

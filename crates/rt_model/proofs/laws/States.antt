@@ -47,10 +47,10 @@ saved-sleep : (call : Option Call) (task : TaskPart) → (saved_for (sleep_of ca
 saved-sleep (Some (calls.LockInt l)) task = refl
 saved-sleep _ task = refl
 
-abbrev IsCalm : TaskState → Type 0
+abbrev pub IsCalm : TaskState → Type 0
 IsCalm state = state ≢ states.LockWait
 
-running-calm : IsCalm states.Running
+pub running-calm : IsCalm states.Running
 running-calm is = cc
 
 calm-own : (kind : EventKind) (e : Event) (th : ThreadPart) → spins (kind_named th e.lock) ≡ false → (found : Around) (lock : OwnerPart) (task : TaskPart) → HasState IsCalm task → HasState IsCalm ((effect kind e th found).own lock task)

@@ -7,7 +7,7 @@ use Rattle.rt_base.specs.Kind.{spins}
 use Rattle.rt_base.specs.declared.call.Call.{Call}
 use Rattle.rt_base.specs.declared.kind.Kind.{Kind}
 use Rattle.rt_base.specs.declared.id.LockId.{LockId}
-use Rattle.rt_base.specs.declared.limits.TheConstants.{MAX_CALLS, MAX_LOCKS}
+use Rattle.rt_base.specs.declared.limits.TheConstants.{MAX_CALLS, MAX_LOCKS, MAX_TASKS}
 use Rattle.rt_model.specs.declared.hold.Hold.{Hold}
 use Rattle.rt_model.specs.Stage.{IsServed}
 use Rattle.rt_model.specs.Parts.{ThreadPart}
@@ -68,7 +68,7 @@ spinning-none (kind ∷ kinds) = omega (arith, none_of (spins kind), spinning-no
 
 -- a thread that has made no call, and holds nothing
 pub fresh-fits : (kinds : List Kind) (calls : List Call) (ks : List Kind) (cs : List Call) (holds : List Hold) → ks ≡ kinds → cs ≡ calls → holds ≡ replicate (length kinds) (record { owns = false; reads = 0 })
-    → length calls ≤ MAX_CALLS → length kinds ≤ MAX_LOCKS → All (IsServed (length kinds)) calls → IsPrivate ks cs 0 holds 0
+    → length calls ≤ MAX_CALLS → length kinds ≤ MAX_LOCKS → All (IsServed MAX_TASKS (length kinds)) calls → IsPrivate ks cs 0 holds 0
 fresh-fits kinds calls ks cs holds is_kinds is_calls is_holds few few_locks served =
     let fresh : IsPrivate kinds calls 0 (replicate (length kinds) (record { owns = false; reads = 0 })) 0 = record {
       thread = record { within = omega arith; few = few; served = served };

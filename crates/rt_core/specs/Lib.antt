@@ -1,5 +1,6 @@
 pub mod Shared
 pub mod Thread
+pub mod Walking
 pub mod TaskSet
 pub mod Core
 pub mod Enabled

@@ -2,14 +2,14 @@
 use Rattle.std.specs.Prelude.{◌≡◌, ℕ, ◌≤◌, List, length}
 use Rattle.rt_base.specs.declared.call.Call.{Call}
 use Rattle.rt_base.specs.declared.kind.Kind.{Kind}
-use Rattle.rt_base.specs.declared.limits.TheConstants.{MAX_LOCKS}
+use Rattle.rt_base.specs.declared.limits.TheConstants.{MAX_LOCKS, MAX_TASKS}
 use Rattle.rt_model.specs.declared.hold.Hold.{Hold}
 use Rattle.rt_model.specs.events.Own.{spinning_holds}
 use Rattle.rt_model.specs.laws.Shape.{IsThread}
 
 -- a thread knows a kind and a hold of each lock, its calls are served, and what it holds of spinning kinds is counted
 pub record IsPrivate (kinds : List Kind) (calls : List Call) (answered : ℕ) (held : List Hold) (count : ℕ) : Type 0 where
-  pub thread : IsThread calls answered (length kinds)
+  pub thread : IsThread calls answered MAX_TASKS (length kinds)
   pub few : length kinds ≤ MAX_LOCKS
   pub holds : length held ≡ length kinds
   pub spinning : count ≡ spinning_holds kinds held

@@ -105,7 +105,7 @@ fn can_move(thread: &Thread, task: &TaskCell) -> bool
 
 // Whether a call has a first event.
 fn can_start(thread: &Thread, call: &Call) -> bool
-    requires { IsServed (length thread.now.kinds) call.now }
+    requires { IsServed MAX_TASKS (length thread.now.kinds) call.now }
     ensures { (state : TaskState) → result ≡ can_in Start state thread.now call.now }
 {
     has_first(call) || own_answer(thread, call).is_some()
@@ -115,16 +115,20 @@ fn can_start(thread: &Thread, call: &Call) -> bool
 fn has_first(call: &Call) -> bool
     ensures { result ≡ has_first call.now }
 {
-    matches!(call, Call::Lock(_) | Call::Unlock(_))
+    matches!(
+        call,
+        Call::Lock(_) | Call::TryLock(_) | Call::Unlock(_) | Call::SetPrio(..)
+    )
 }
 
-// Whether a call on a lock goes on that has made its first event.
-fn can_go_on(phase: Phase, state: TaskState, lock: Option<LockId>) -> bool
-    ensures { result ≡ can_go_on phase state lock }
+// Whether a call goes on that has made its first event.
+fn can_go_on(phase: &Phase, state: TaskState, lock: Option<LockId>) -> bool
+    ensures { result ≡ can_go_on phase.now state lock }
 {
     match (phase, lock) {
         (Phase::Slow, Some(_)) => true,
         (Phase::Wait, Some(_)) => state == TaskState::Running,
+        (Phase::Walk(..), _) => true,
         _ => false,
     }
 }

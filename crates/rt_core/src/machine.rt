@@ -2,7 +2,7 @@ ghost use Rattle.std.specs.Prelude.{◌≡◌, ◌↔◌, ◌<◌, ◌≤◌, �
 ghost use Rattle.rt_base.specs.Script.{Script};
 ghost use Rattle.rt_model.specs.declared.obj.Obj.{Obj};
 ghost use Rattle.rt_model.specs.Parts.{call_of, effective_of};
-ghost use Rattle.rt_model.specs.Stage.{HasOneMutex, IsServed};
+ghost use Rattle.rt_model.specs.Stage.{HasOnlyMutexes, IsServed};
 ghost use Rattle.rt_model.specs.State.{State, start, shared, object, owner_part, task_part, thread_part};
 ghost use Rattle.rt_model.specs.NextEvent.{next_event};
 ghost use Rattle.rt_model.specs.StateAfter.{state_after};
@@ -21,7 +21,7 @@ use crate::effect::make;
 use crate::enabled::Enabled;
 use crate::next::{boost_within, event_of, next_of};
 use crate::note::Note;
-use crate::playable::has_one_mutex;
+use crate::playable::has_only_mutexes;
 use crate::report::{write_lock_line, write_task_line};
 use crate::shared::Shared;
 use crate::start::threads;
@@ -60,17 +60,17 @@ impl Model for Core {
 }
 
 impl Core {
-    /// Whether the machine plays a script, so far one with one lock at most, a mutex, whose tasks only
-    /// take and release it.
+    /// Whether the machine plays a script, so far one whose locks are all mutexes, and whose tasks take and
+    /// release them and set priorities.
     pub fn can(script: &Script) -> bool
-        ensures { IsTrue result ↔ HasOneMutex script.now }
+        ensures { IsTrue result ↔ HasOnlyMutexes script.now }
     {
-        has_one_mutex(script)
+        has_only_mutexes(script)
     }
 
     /// The machine in the script's start state: no holder, no waiter, every task running.
     pub fn new(alloc: Global, script: &Script) -> Result<Core, NoMemory>
-        requires { HasOneMutex script.now }
+        requires { HasOnlyMutexes script.now }
         ensures start { IfOk result (λ core. core ≡ record { state = start script.now; made = 0 }) }
         ensures script { IfOk result (λ core. IsOf script.now core.state) }
         ensures lawful { IfOk result (λ core. IsLawful core.state core.made) }
@@ -205,12 +205,12 @@ impl Core {
     fn call_note(&self, t: TaskId, thread: &Thread, call: Option<Call>) -> Note
         requires task { t.0 < length self.now.state.threads }
         requires thread { thread.now ≡ thread_part self.now.state t }
-        requires served { IfSome call (IsServed (length thread.now.kinds)) }
+        requires served { IfSome call (IsServed MAX_TASKS (length thread.now.kinds)) }
         ensures { result ≡ call_note self.now.state t call }
     {
         let Some(call) = call else { return Note::End };
         match thread.phase() {
-            Phase::Walk(cursor, _) => Note::Walk(cursor),
+            Phase::Walk(cursor, _) => Note::Walk(*cursor),
             Phase::Confirm(_) => Note::Confirm,
             _ if self.is_enabled(t) => Note::Ready,
             Phase::Wait => blocked_note(self.cell(t).blocked_at()),

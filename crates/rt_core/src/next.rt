@@ -1,10 +1,11 @@
 // The one event that a task may make next, of the shared parts and its own thread alone.
 ghost use Rattle.std.specs.Prelude.{◌≡◌, ◌<◌, length, Some, IfSome};
-ghost use Rattle.rt_model.specs.Parts.{kind_of};
+ghost use Rattle.rt_model.specs.Parts.{call_of, kind_of};
 ghost use Rattle.rt_model.specs.Choice.{called_lock};
 ghost use Rattle.rt_model.specs.Stage.{IsServed};
 ghost use Rattle.rt_model.specs.events.Own.{own_answer};
 ghost use Rattle.rt_model.specs.NextEvent.{first_event, answered_or, later_event, next_of};
+ghost use Rattle.rt_core.specs.Walking.{FindsCursor};
 
 mod acquire;
 mod chosen;
@@ -12,16 +13,21 @@ mod event;
 mod own;
 mod release;
 mod wait;
+mod wakeups;
+mod walk;
 
-use crate::next::acquire::acquire_event;
+use crate::next::acquire::{acquire_event, try_event};
 pub use crate::next::chosen::{Chosen, event_of};
 pub use crate::next::event::boost_within;
 pub use crate::next::own::own_answer;
 use crate::next::own::own_event;
 use crate::next::release::release_event;
 use crate::next::wait::{queued_event, slow_event};
+use crate::next::wakeups::setprio_event;
+use crate::next::walk::cursor_event;
 use crate::shared::Shared;
 use crate::thread::Thread;
+use rt_base::limits::MAX_TASKS;
 use rt_base::{Call, LockId, TaskId};
 use rt_model::Phase;
 
@@ -29,6 +35,8 @@ use rt_model::Phase;
 pub fn next_of(shared: &Shared, t: TaskId, thread: &Thread) -> Option<Chosen>
     requires task { t.0 < length shared.now.tasks }
     requires kinds { length thread.now.kinds ≡ length shared.now.locks }
+    requires served { IfSome (call_of thread.now) (IsServed (length shared.now.tasks) (length shared.now.locks)) }
+    requires cursor { FindsCursor shared.now thread.now.phase }
     ensures { result ≡ next_of shared.now t thread.now }
 {
     let call = thread.call()?;
@@ -42,31 +50,38 @@ pub fn next_of(shared: &Shared, t: TaskId, thread: &Thread) -> Option<Chosen>
 fn start_event(shared: &Shared, t: TaskId, thread: &Thread, call: &Call) -> Option<Chosen>
     requires task { t.0 < length shared.now.tasks }
     requires kinds { length thread.now.kinds ≡ length shared.now.locks }
-    requires served { IsServed (length thread.now.kinds) call.now }
-    ensures { result ≡ answered_or (first_event shared.now t call.now) t (called_lock thread.now.cpu call.now) (own_answer thread.now call.now) }
+    requires known { IsServed MAX_TASKS (length thread.now.kinds) call.now }
+    requires served { IsServed (length shared.now.tasks) (length shared.now.locks) call.now }
+    ensures { result ≡ answered_or (first_event shared.now t thread.now call.now) t (called_lock thread.now.cpu call.now) (own_answer thread.now call.now) }
 {
     match own_answer(thread, call) {
         Some(answer) => Some(own_event(t, thread.called_lock(call), answer)),
-        None => first_event(shared, t, call),
+        None => first_event(shared, t, thread, call),
     }
 }
 
 // The first event of a call that isn't answered by its thread alone.
-fn first_event(shared: &Shared, t: TaskId, call: &Call) -> Option<Chosen>
+fn first_event(shared: &Shared, t: TaskId, thread: &Thread, call: &Call) -> Option<Chosen>
     requires task { t.0 < length shared.now.tasks }
-    requires served { IsServed (length shared.now.locks) call.now }
-    ensures { result ≡ first_event shared.now t call.now }
+    requires kinds { length thread.now.kinds ≡ length shared.now.locks }
+    requires served { IsServed (length shared.now.tasks) (length shared.now.locks) call.now }
+    ensures { result ≡ first_event shared.now t thread.now call.now }
 {
     match call {
         Call::Lock(l) => Some(acquire_event(t, *l, shared.lock(*l))),
+        Call::TryLock(l) => {
+            let kind = thread.kind_of(*l);
+            Some(try_event(t, *l, kind, shared.lock(*l), shared.task(t)))
+        }
         Call::Unlock(l) => Some(release_event(t, *l, shared.lock(*l), shared.task(t))),
+        Call::SetPrio(u, prio) => Some(setprio_event(t, *u, *prio, shared.task(*u))),
         _ => None,
     }
 }
 
-// The event of a call on a lock that isn't in its first phase.
+// The event of a call that isn't in its first phase.
 fn later_event(
-    phase: Phase,
+    phase: &Phase,
     shared: &Shared,
     t: TaskId,
     thread: &Thread,
@@ -75,13 +90,16 @@ fn later_event(
     requires task { t.0 < length shared.now.tasks }
     requires kinds { length thread.now.kinds ≡ length shared.now.locks }
     requires lock { IfSome lock (λ l. l.0 < length thread.now.kinds) }
-    ensures { result ≡ later_event phase shared.now t thread.now lock }
+    requires cursor { FindsCursor shared.now phase.now }
+    ensures { result ≡ later_event phase.now shared.now t thread.now lock }
 {
-    let l = lock?;
-    let kind = thread.kind_of(l);
-    match phase {
-        Phase::Slow => Some(slow_event(shared, t, l, kind)),
-        Phase::Wait => queued_event(t, l, kind, shared.lock(l), shared.task(t)),
+    match (phase, lock) {
+        (Phase::Slow, Some(l)) => Some(slow_event(shared, t, l, thread.kind_of(l))),
+        (Phase::Wait, Some(l)) => {
+            let kind = thread.kind_of(l);
+            queued_event(t, l, kind, shared.lock(l), shared.task(t))
+        }
+        (Phase::Walk(cursor, route), _) => Some(cursor_event(shared, t, route, *cursor)),
         _ => None,
     }
 }

@@ -1,25 +1,28 @@
 // Which scripts the machine plays.
-ghost use Rattle.std.specs.Prelude.{◌≡◌, ◌↔◌, ◌≤◌, length, All, IsTrue};
+ghost use Rattle.std.specs.Prelude.{◌≡◌, ◌↔◌, All, IsTrue};
 ghost use Rattle.rt_base.specs.Script.{TaskLine, LockLine};
-ghost use Rattle.rt_model.specs.Stage.{IsMutexCall, HasOneMutex};
+ghost use Rattle.rt_model.specs.Stage.{IsPlayed, HasOnlyMutexes};
 ghost use Rattle.rt_base.specs.declared.kind.Kind.TheVariants.{Mutex};
 
 use rt_base::{Call, Kind, LockId, TaskId};
 use rt_script::Script;
 
-/// Whether a call takes or releases a mutex.
-fn is_mutex_call(call: &Call) -> bool
-    ensures { IsTrue result ↔ IsMutexCall call.now }
+/// Whether a call takes or releases a mutex, or sets a priority.
+fn is_played(call: &Call) -> bool
+    ensures { IsTrue result ↔ IsPlayed call.now }
 {
-    matches!(call, Call::Lock(_) | Call::Unlock(_))
+    matches!(
+        call,
+        Call::Lock(_) | Call::TryLock(_) | Call::Unlock(_) | Call::SetPrio(..)
+    )
 }
 
 /// Whether each of these calls does.
-fn are_mutex_calls(calls: &[Call]) -> bool
-    ensures { IsTrue result ↔ All IsMutexCall calls.now }
+fn are_played(calls: &[Call]) -> bool
+    ensures { IsTrue result ↔ All IsPlayed calls.now }
 {
     for call in calls {
-        if !is_mutex_call(call) {
+        if !is_played(call) {
             return false;
         }
     }
@@ -45,21 +48,21 @@ fn has_mutexes(script: &Script) -> bool
     true
 }
 
-/// Whether its tasks only take and release mutexes.
-fn calls_mutexes(script: &Script) -> bool
-    ensures { IsTrue result ↔ All (λ (line : TaskLine). All IsMutexCall line.calls) script.now.tasks }
+/// Whether its tasks only take and release mutexes, and set priorities.
+fn calls_played(script: &Script) -> bool
+    ensures { IsTrue result ↔ All (λ (line : TaskLine). All IsPlayed line.calls) script.now.tasks }
 {
     for t in 0..script.tasks() {
-        if !are_mutex_calls(script.calls(TaskId(t))) {
+        if !are_played(script.calls(TaskId(t))) {
             return false;
         }
     }
     true
 }
 
-/// Whether the script has one lock at most, a mutex, and its tasks only take and release it.
-pub fn has_one_mutex(script: &Script) -> bool
-    ensures { IsTrue result ↔ HasOneMutex script.now }
+/// Whether the script's locks are all mutexes, and its tasks take and release them and set priorities.
+pub fn has_only_mutexes(script: &Script) -> bool
+    ensures { IsTrue result ↔ HasOnlyMutexes script.now }
 {
-    script.locks() <= 1 && has_mutexes(script) && calls_mutexes(script)
+    has_mutexes(script) && calls_played(script)
 }

@@ -1,6 +1,6 @@
 ghost use Rattle.std.specs.Prelude.{◌≡◌, ◌<◌, ◌≤◌, length, IfOk, IfSome};
 ghost use Rattle.rt_base.specs.Script.{IsScript};
-ghost use Rattle.rt_model.specs.Stage.{HasOneMutex};
+ghost use Rattle.rt_model.specs.Stage.{HasOnlyMutexes};
 ghost use Rattle.rt_model.specs.State.{start, shared, lock_in, readers_in, task_in};
 
 mod locks;
@@ -46,7 +46,7 @@ impl Model for Shared {
 impl Shared {
     /// Free locks and running tasks, as many as the script has. All room for rows is taken here.
     pub fn new(alloc: Global, script: &Script) -> Result<Shared, NoMemory>
-        requires { HasOneMutex script.now }
+        requires { HasOnlyMutexes script.now }
         ensures start { IfOk result (λ parts. parts ≡ shared (start script.now)) }
         ensures valid { IsScript script.now }
     {

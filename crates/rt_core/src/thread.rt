@@ -9,7 +9,7 @@ ghost use Rattle.rt_model.specs.steps.Thread.{answered_with, holds_after, with_h
 ghost use Rattle.rt_model.specs.Run.{is_at_end};
 ghost use Rattle.rt_model.specs.Order.{in_walk};
 
-use rt_base::limits::{MAX_CALLS, MAX_LOCKS};
+use rt_base::limits::{MAX_CALLS, MAX_LOCKS, MAX_TASKS};
 use rt_base::{Call, Cpu, Kind, LockId, NoMemory, Reply, TaskState};
 use rt_model::{Hold, Phase};
 use std::alloc::Global;
@@ -54,7 +54,7 @@ impl Thread {
     pub fn new(alloc: Global, kinds: &[Kind], calls: &[Call], cpu: Cpu) -> Result<Thread, NoMemory>
         requires few { length calls.now ≤ MAX_CALLS }
         requires few_locks { length kinds.now ≤ MAX_LOCKS }
-        requires served { All (IsServed (length kinds.now)) calls.now }
+        requires served { All (IsServed MAX_TASKS (length kinds.now)) calls.now }
         ensures { IfOk result (λ thread. thread ≡ fresh_thread kinds.now calls.now cpu) }
     {
         let holds = vec![in alloc; NOTHING; kinds.len()]?;
@@ -73,7 +73,7 @@ impl Thread {
     /// The call that the thread is at, and `None` at the end of its calls.
     pub fn call(&self) -> Option<Call>
         ensures call { result ≡ call_of self.now }
-        ensures served { IfSome result (IsServed (length self.now.kinds)) }
+        ensures served { IfSome result (IsServed MAX_TASKS (length self.now.kinds)) }
     {
         self.calls.get(self.answered as usize).copied()
     }
@@ -100,10 +100,10 @@ impl Thread {
     }
 
     /// How far its call has come.
-    pub fn phase(&self) -> Phase
-        ensures { result ≡ self.now.phase }
+    pub fn phase(&self) -> &Phase
+        ensures { result.now ≡ self.now.phase }
     {
-        self.phase
+        &self.phase
     }
 
     /// Whether its chain walk is unfinished.
@@ -137,12 +137,12 @@ impl Thread {
 
     /// The lock that a call is about.
     pub fn called_lock(&self, call: &Call) -> Option<LockId>
-        requires { IsServed (length self.now.kinds) call.now }
+        requires { IsServed MAX_TASKS (length self.now.kinds) call.now }
         ensures lock { result ≡ called_lock self.now.cpu call.now }
         ensures within { IfSome result (λ l. l.0 < length self.now.kinds) }
     {
         match call {
-            Call::Lock(l) | Call::Unlock(l) => Some(*l),
+            Call::Lock(l) | Call::TryLock(l) | Call::Unlock(l) => Some(*l),
             _ => None,
         }
     }
@@ -195,11 +195,11 @@ impl Thread {
 
     // Holds what an acquire got, and no longer what a release gave back.
     fn note_answer(&mut self, call: Call, reply: Reply)
-        requires { IsServed (length self.old.kinds) call }
+        requires { IsServed MAX_TASKS (length self.old.kinds) call }
         ensures { self.new ≡ record self.old { holds = holds_after self.old (Some call) reply } }
     {
         match (call, reply) {
-            (Call::Lock(l), Reply::Got) => self.set_owns(l, true),
+            (Call::Lock(l) | Call::TryLock(l), Reply::Got) => self.set_owns(l, true),
             (Call::Unlock(l), Reply::Done) => self.set_owns(l, false),
             _ => {}
         }

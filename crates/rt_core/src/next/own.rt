@@ -7,12 +7,13 @@ ghost use Rattle.rt_model.specs.events.Own.{if_held, if_not_held, private_answer
 use crate::next::chosen::Chosen;
 use crate::next::event::bare;
 use crate::thread::Thread;
+use rt_base::limits::MAX_TASKS;
 use rt_base::{Call, Kind, LockId, Reply, TaskId};
 use rt_model::EventKind;
 
 /// The answer that a thread gives a call at once, where it does.
 pub fn own_answer(thread: &Thread, call: &Call) -> Option<Reply>
-    requires { IsServed (length thread.now.kinds) call.now }
+    requires { IsServed MAX_TASKS (length thread.now.kinds) call.now }
     ensures { result ≡ own_answer thread.now call.now }
 {
     let lock = thread.called_lock(call);

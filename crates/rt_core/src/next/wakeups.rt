@@ -1,0 +1,1 @@
+// Priorities: setprio.

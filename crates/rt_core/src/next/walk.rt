@@ -1,0 +1,1 @@
+// Chain walks: walk, walkend.

@@ -1,5 +1,5 @@
 -- A next event keeps the own-priorities law.
-use Rattle.std.proofs.Common.{◌≡◌, ℕ, ◌≤◌, refl, sym, ◌∙◌, subst, Option, Some, None, IfSome}
+use Rattle.std.proofs.Common.{◌≡◌, ℕ, ◌≤◌, sym, subst, Option, Some, None}
 use Rattle.rt_base.specs.Kind.{spins}
 use Rattle.rt_base.specs.declared.id.LockId.{LockId}
 use Rattle.rt_base.specs.declared.id.TaskId.{TaskId}
@@ -9,7 +9,7 @@ use Rattle.rt_model.specs.declared.event_kind.EventKind.{EventKind}
 use Rattle.rt_model.specs.declared.event_kind.EventKind.TheVariants as kinds
 use Rattle.rt_model.specs.Parts.{OwnerPart, TaskPart, ThreadPart, call_of, kind_named}
 use Rattle.rt_model.specs.Rows.{top_key}
-use Rattle.rt_model.specs.State.{State, task_part, thread_part}
+use Rattle.rt_model.specs.State.{State, thread_part}
 use Rattle.rt_model.specs.steps.Task.{rest_of, with_top, leave_queue}
 use Rattle.rt_model.specs.Effect.{Around}
 use Rattle.rt_model.specs.Rules.{effect}

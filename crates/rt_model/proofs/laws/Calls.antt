@@ -27,7 +27,6 @@ use Rattle.rt_model.specs.steps.Thread.{answered_with}
 use Rattle.rt_model.specs.steps.Chain.{answer_of_walk}
 use Rattle.rt_model.specs.laws.Keys.{StandsAt}
 use Rattle.rt_model.specs.Effect.{around}
-use Rattle.rt_model.specs.Choice.{called_lock}
 use Rattle.rt_model.specs.events.Own.{unless_nested, if_held, if_not_held, spinning_holds}
 use Rattle.rt_model.specs.Rules.{touched}
 use Rattle.rt_model.specs.StateAfter.{effect_in, shared_after, state_after}

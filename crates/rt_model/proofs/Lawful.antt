@@ -16,13 +16,15 @@ use Rattle.rt_model.proofs.laws.Owners.{OwnersLaw-next}
 use Rattle.rt_model.proofs.laws.States.{StatesLaw-after}
 use Rattle.rt_model.proofs.laws.AwakeTop.{AwakeTopLaw-next}
 use Rattle.rt_model.proofs.laws.Keys.{KeysLaw-next}
+use Rattle.rt_model.proofs.laws.Walks.{WalksLaw-next}
+use Rattle.rt_model.proofs.laws.OwnPriorities.{OwnPrioritiesLaw-next}
 
 pub IsLawful-next : (s : State) (made : ℕ) (t : TaskId) (e : Event) → IsLawful s made → IsNext s t e → IsLawful (state_after s e) (suc made)
 IsLawful-next s made t e lawful next =
-    let there = (within s t e lawful.shape next).task in
+    let names = within s made t e lawful next in
     record {
-      shape = IsShaped-after s e there lawful.shape;
-      stage = IsStaged-after s e there lawful.stage;
+      shape = IsShaped-after s e names lawful.shape;
+      stage = IsStaged-after s e names.task lawful.stage;
       phases = PhasesLaw-next s made t e lawful next;
       rows = RowsLaw-next s made t e lawful next;
       kept = KeptTopsLaw-next s made t e lawful next;
@@ -31,4 +33,6 @@ IsLawful-next s made t e lawful next =
       states = StatesLaw-after s e lawful.stage lawful.states;
       awake = AwakeTopLaw-next s made t e lawful next;
       keys = KeysLaw-next s made t e lawful next;
+      walks = WalksLaw-next s made t e lawful next;
+      priorities = OwnPrioritiesLaw-next s made t e lawful next;
     }

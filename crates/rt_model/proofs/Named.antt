@@ -58,7 +58,7 @@ top_within n rows all = by_top (top_waiter rows) (top-holds (λ (row : Row). row
     by_top (Some row) is = is
 
 -- the rows of a lock at which a task may have been queued anew
-requeued_within : (n : ℕ) (u : TaskId) (task : TaskPart) (lock : OwnerPart) → u.0 < n → All (λ (row : Row). row.who < n) lock.rows → All (λ (row : Row). row.who < n) (requeued_where_old (Some u) task lock).rows
+pub requeued_within : (n : ℕ) (u : TaskId) (task : TaskPart) (lock : OwnerPart) → u.0 < n → All (λ (row : Row). row.who < n) lock.rows → All (λ (row : Row). row.who < n) (requeued_where_old (Some u) task lock).rows
 requeued_within n u task lock lt all =
     cond_both (has_old_key task) (requeued u (effective_of task) lock) lock (λ (x : OwnerPart). All (λ (row : Row). row.who < n) x.rows)
     (λ is. All-insert_row (λ (row : Row). row.who < n) (record { key = effective_of task; ticket = lock.ticket; who = u.0 }) (without u lock.rows) lt (All-filter (λ row. not (is_of u row)) (λ (row : Row). row.who < n) lock.rows all))

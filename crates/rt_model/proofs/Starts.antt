@@ -14,6 +14,7 @@ use Rattle.rt_base.specs.declared.id.LockId.{LockId}
 use Rattle.rt_base.specs.declared.id.TaskId.{TaskId}
 use Rattle.rt_base.specs.declared.kind.Kind.{Kind}
 use Rattle.rt_base.specs.declared.kind.Kind.TheVariants.{Mutex}
+use Rattle.rt_base.specs.declared.limits.TheConstants.{MAX_PRIO}
 use Rattle.rt_base.specs.declared.state.TaskState.TheVariants.{Running, LockWait}
 use Rattle.rt_model.specs.declared.hold.Hold.{Hold}
 use Rattle.rt_model.specs.declared.phase.Phase.{Phase}
@@ -22,12 +23,14 @@ use Rattle.rt_model.specs.declared.row.Row.{Row}
 use Rattle.rt_model.specs.Parts.{OwnerPart, TaskPart, ThreadPart, effective_of, call_of, hold_of}
 use Rattle.rt_model.specs.Rows.{top_waiter, top_key, task_of, queued_key}
 use Rattle.rt_model.specs.State.{start, free_lock, fresh_task, fresh_thread, no_readers, kinds_in, owner_part, task_part, thread_part}
-use Rattle.rt_model.specs.Stage.{IsServed, IsStaged, IsMutexCall, HasOneMutex, IsPhaseOf}
+use Rattle.rt_model.specs.Stage.{IsPlayed, HasOnlyMutexes, IsServed, IsStaged, IsPhaseOf}
 use Rattle.rt_model.specs.laws.Shape.{IsShaped, IsOf}
 use Rattle.rt_model.specs.laws.Rows.{IsQueue, RowsLaw, key_at}
 use Rattle.rt_model.specs.laws.KeptTops.{kept_of}
 use Rattle.rt_model.specs.laws.Owners.{owned_by}
 use Rattle.rt_model.specs.laws.Queued.{QueuedLaw, present_lock, awaited_in, asked_in}
+use Rattle.rt_model.specs.laws.Walks.{IsWalkOf}
+use Rattle.rt_model.specs.laws.OwnPriorities.{OwnPrioritiesLaw}
 use Rattle.rt_model.specs.laws.Lawful.{IsLawful}
 use Rattle.rt_model.proofs.Lists.{All-read, map-map, All-both, All-made, read-replicate}
 use Rattle.rt_model.proofs.Within.{HoldsFit}
@@ -39,17 +42,20 @@ use Rattle.rt_model.proofs.laws.Shape.{OwnerIn, RowsIn, KeptFits, KindsFit, AreS
 lock_within : (script : Script) (l : LockId) → IsCallOf script (calls.Lock l) → l.0 < length script.locks
 lock_within script l is = elim (slice_get_cases script.locks l.0).1 [ inl here ↦ here.1 | inr past ↦ absurd (rw past.1 at is) ]
 
--- a call of a script that only takes and releases mutexes is served
-served_in : (script : Script) (call : Call) → IsCallOf script call → IsMutexCall call → IsServed (length script.locks) call
-served_in script (calls.Lock l) is mutex = lock_within script l is
-served_in script (calls.Unlock l) is mutex = lock_within script l is
-served_in script _ is mutex = absurd mutex
+-- a call of a script that is played is served
+served_in : (script : Script) (call : Call) → IsCallOf script call → IsPlayed call → IsServed (length script.tasks) (length script.locks) call
+served_in script (calls.Lock l) is played = lock_within script l is
+served_in script (calls.TryLock l) is played = lock_within script l is
+served_in script (calls.Unlock l) is played = lock_within script l is
+served_in script (calls.SetPrio t prio) is played = is
+served_in script _ is played = absurd played
 
 -- the calls of each task are served
-pub served_calls : (script : Script) → IsScript script → HasOneMutex script → All (λ (line : TaskLine). All (IsServed (length script.locks)) line.calls) script.tasks
+pub served_calls : (script : Script) → IsScript script → HasOnlyMutexes script → All (λ (line : TaskLine). All (IsServed (length script.tasks) (length script.locks)) line.calls) script.tasks
 served_calls script valid mutexes =
-    All-both (IsTaskOf script) (λ (line : TaskLine). All IsMutexCall line.calls) (λ (line : TaskLine). All (IsServed (length script.locks)) line.calls)
-    (λ line task all. All-both (IsCallOf script) IsMutexCall (IsServed (length script.locks)) (served_in script) line.calls task.calls all) script.tasks valid.each_task mutexes.calls
+    let Served : Call → Type 0 = IsServed (length script.tasks) (length script.locks) in
+    All-both (IsTaskOf script) (λ (line : TaskLine). All IsPlayed line.calls) (λ (line : TaskLine). All Served line.calls)
+    (λ line task all. All-both (IsCallOf script) IsPlayed Served (served_in script) line.calls task.calls all) script.tasks valid.each_task mutexes.calls
 
 -- a task makes no more calls than all tasks together
 pub calls_within : (script : Script) → All (λ (line : TaskLine). length line.calls ≤ all_calls script) script.tasks
@@ -90,15 +96,15 @@ IsShaped-start script valid =
     }
 
 -- it goes as far as the stage goes
-pub IsStaged-start : (script : Script) → IsScript script → HasOneMutex script → IsStaged (start script)
+pub IsStaged-start : (script : Script) → IsScript script → HasOnlyMutexes script → IsStaged (start script)
 IsStaged-start script valid mutexes =
     let n = length script.locks in
     let fresh : TaskLine → ThreadPart = λ line. fresh_thread (kinds_in script) line.calls line.cpu in
     let locks : length (start script).locks ≡ n = length-replicate n free_lock in
+    let threads : length (start script).threads ≡ length script.tasks = length-map script.tasks fresh in
     record {
-      one_lock = rw locks mutexes.one;
       mutexes = All-made AreMutexes fresh (λ line. All-map (λ (kind : Kind). kind ≡ Mutex) (λ (lock : LockLine). lock.kind) script.locks mutexes.locks) script.tasks;
-      served = rw locks (All-map (AreServed n) fresh script.tasks (served_calls script valid mutexes));
+      served = subst (λ (m : ℕ). All (AreServed m (length (start script).locks)) (start script).threads) (sym threads) (rw locks (All-map (AreServed (length script.tasks) n) fresh script.tasks (served_calls script valid mutexes)));
     }
 
 -- ---- the laws of the start state
@@ -150,8 +156,14 @@ module _ (script : Script) where
         asking = λ t. subst (λ (phase : Phase). IfSome (asked_in phase (lock t)) (Free t)) (sym (phase-start t)) tt;
       }
 
+  -- each task has the own priority of its line
+  OwnPrioritiesLaw-start : IsScript script → OwnPrioritiesLaw (start script)
+  OwnPrioritiesLaw-start valid t =
+      All-read (λ (task : TaskPart). task.own ≤ MAX_PRIO) (start script).tasks t.0 _
+      (All-map (λ (task : TaskPart). task.own ≤ MAX_PRIO) (λ (line : TaskLine). fresh_task (length script.locks) line.own) script.tasks (λ i d lt. (valid.each_task i d lt).own)) (omega arith)
+
 -- the start state is lawful
-pub IsLawful-start : (script : Script) → IsScript script → HasOneMutex script → IsLawful (start script) 0
+pub IsLawful-start : (script : Script) → IsScript script → HasOnlyMutexes script → IsLawful (start script) 0
 IsLawful-start script valid mutexes = record {
   shape = IsShaped-start script valid;
   stage = IsStaged-start script valid mutexes;
@@ -166,4 +178,6 @@ IsLawful-start script valid mutexes = record {
   };
   awake = λ l free. subst (λ (rows : List Row). IfSome (top_waiter rows) (λ row. (task_part (start script) (task_of row)).state ≡ Running)) (sym (rows-start script l)) tt;
   keys = λ t apart. subst (λ (b : Option (LockId × ℕ)). IfSome b (λ at. at.1 ≡ effective_of (task_part (start script) t))) (sym (blocked-start script t)) tt;
+  walks = λ t. subst (IsWalkOf (length (start script).threads) t (present_lock (thread_part (start script) t))) (sym (phase-start script t)) tt;
+  priorities = OwnPrioritiesLaw-start script valid;
 }

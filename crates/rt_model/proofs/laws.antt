@@ -8,6 +8,7 @@ pub mod Queued
 pub mod AwakeTop
 pub mod Keys
 pub mod States
+pub mod OwnPriorities
 pub mod Holders
 pub mod Deadlocks
 pub mod Priorities

@@ -9,6 +9,7 @@ use Rattle.rt_base.specs.declared.call.Call.{Call}
 use Rattle.rt_base.specs.declared.call.Call.TheVariants as calls
 use Rattle.rt_base.specs.declared.ended.Ended.TheVariants.{Done, Stuck, Limit}
 use Rattle.rt_base.specs.declared.id.Cpu.{Cpu}
+use Rattle.rt_base.specs.declared.id.LockId.{LockId}
 use Rattle.rt_base.specs.declared.id.TaskId.{TaskId}
 use Rattle.rt_base.specs.declared.kind.Kind.{Kind}
 use Rattle.rt_base.specs.declared.kind.Kind.TheVariants.{Mutex}
@@ -18,11 +19,14 @@ use Rattle.rt_model.specs.declared.event.Event.{Event}
 use Rattle.rt_model.specs.declared.event_kind.EventKind.TheVariants as kinds
 use Rattle.rt_model.specs.declared.hold.Hold.{Hold}
 use Rattle.rt_model.specs.declared.phase.Phase.{Phase}
+use Rattle.rt_model.specs.declared.phase.Route.{Route}
+use Rattle.rt_model.specs.declared.phase.Route.TheVariants.{Short}
 use Rattle.rt_model.specs.Parts.{ThreadPart, call_of}
 use Rattle.rt_model.specs.State.{State, shared, start, fresh_thread, kinds_in, thread_part}
 use Rattle.rt_model.specs.steps.Thread.{answered_with}
+use Rattle.rt_model.specs.steps.Chain.{answer_of_walk}
+use Rattle.rt_model.specs.laws.Keys.{StandsAt}
 use Rattle.rt_model.specs.Effect.{around}
-use Rattle.rt_model.specs.Choice.{called_lock}
 use Rattle.rt_model.specs.events.Own.{unless_nested, if_held, if_not_held, spinning_holds}
 use Rattle.rt_model.specs.Rules.{touched}
 use Rattle.rt_model.specs.StateAfter.{effect_in, shared_after, state_after}
@@ -30,18 +34,21 @@ use Rattle.rt_model.specs.Run.{after, IsRun, is_at_end, is_done, is_stuck, ended
 use Rattle.rt_model.specs.Stage.{IsStaged}
 use Rattle.rt_model.specs.laws.Lawful.{IsLawful}
 use Rattle.rt_model.specs.laws.Shape.{IsOf}
-use Rattle.rt_model.specs.laws.Calls.{can_have, IsOfCall, then_make, makes_first, Make, events_of, answered_after, CallsLaw}
+use Rattle.rt_model.specs.laws.Calls.{can_have, NamesFor, IsOfCall, IsOfWalk, is_of_walk, then_make, makes_first, Make, events_of, answered_after, CallsLaw}
 use Rattle.rt_model.proofs.Lists.{All-default, read-map}
 use Rattle.rt_model.proofs.Numbers.{same_task}
 use Rattle.rt_model.proofs.Calling.{IsIn}
-use Rattle.rt_model.proofs.NextEvents.{IsNext, by_own, by_acquire, by_wait, by_release}
+use Rattle.rt_model.proofs.NextEvents.{IsNext, by_own, by_acquire, by_wait, by_release, by_walk, by_setprio}
 use Rattle.rt_model.proofs.events.Own.{IsOwn}
-use Rattle.rt_model.proofs.events.Acquire.{is_fast, is_mark, is_take}
+use Rattle.rt_model.proofs.events.Acquire.{is_fast, is_mark, is_take, is_busy, IsAcquireOf, IsAcquiring, fast-acquiring, take-acquiring}
 use Rattle.rt_model.proofs.events.Wait.{is_wait, is_again}
 use Rattle.rt_model.proofs.events.Release.{is_free, is_give}
+use Rattle.rt_model.proofs.events.Walk.{WalksIn, by_full, by_short, is_walk, is_walkend}
 use Rattle.rt_model.proofs.PartsAfter.{thread-own, thread-other, thread-phase}
-use Rattle.rt_model.proofs.Prefixes.{run-next, run-lawful, next-task, IsOf-along}
+use Rattle.rt_model.proofs.Prefixes.{run-next, run-lawful, next-there, next-task, IsOf-along}
 use Rattle.rt_model.proofs.Starts.{IsOf-start}
+use Rattle.rt_model.proofs.Waiters.{blocking, walk-phase}
+use Rattle.rt_model.proofs.laws.Holders.{other_kind}
 use Rattle.rt_model.proofs.laws.Shape.{thread-keeps, IsOf-threads}
 use Rattle.rt_model.proofs.laws.States.{kinds_known}
 
@@ -74,31 +81,94 @@ notowner-answer true answer is = cc
 notowner-answer false answer is = cc
 
 -- an event that comes about as x, of a call
-written : (cpu : Cpu) (call : Call) (e x : Event) → e ≡ x → can_have call x.kind x.reply ≡ true → x.lock ≡ called_lock cpu call → IsOfCall cpu call e
-written cpu call e x is can lock = subst (IsOfCall cpu call) (sym is) (record { can = can; lock = lock })
+written : (cpu : Cpu) (call : Call) (e x : Event) → e ≡ x → can_have call x.kind x.reply ≡ true → NamesFor x.kind cpu call x → IsOfCall cpu call e
+written cpu call e x is can names = subst (IsOfCall cpu call) (sym is) (record { can = can; names = names })
 
 own-of : (s : State) (t : TaskId) (call : Call) (answer : Reply) (e : Event) → IsStaged s → IsOwn s t call answer e → IsOfCall (thread_part s t).cpu call e
 own-of s t (calls.Lock l) answer e staged is =
     let deadlock = deadlock-answer _ _ answer (none-spins (thread_part s t).kinds (thread_part s t).holds (kinds_known s t staged)) is.why in
-    written (thread_part s t).cpu (calls.Lock l) e _ is.event (ap (λ (a : Reply). can_have (calls.Lock l) kinds.Own (Some a)) deadlock) refl
+    written (thread_part s t).cpu (calls.Lock l) e _ is.event (ap (λ (a : Reply). can_have (calls.Lock l) kinds.Own (Some a)) deadlock) (refl, refl, refl)
 own-of s t (calls.Unlock l) answer e staged is =
     let notowner = notowner-answer _ answer is.why in
-    written (thread_part s t).cpu (calls.Unlock l) e _ is.event (ap (λ (a : Reply). can_have (calls.Unlock l) kinds.Own (Some a)) notowner) refl
+    written (thread_part s t).cpu (calls.Unlock l) e _ is.event (ap (λ (a : Reply). can_have (calls.Unlock l) kinds.Own (Some a)) notowner) (refl, refl, refl)
+own-of s t (calls.TryLock l) answer e staged is = let why = is.why in cc
+own-of s t (calls.SetPrio u prio) answer e staged is = let why = is.why in cc
 own-of s t _ answer e staged is = absurd is.at.served
 
 -- an event that comes about as x, in a phase of this call
-in_call : (s : State) (t : TaskId) (phase : Phase) (call : Call) (e x : Event) → IsIn s t phase call → e ≡ x → can_have call x.kind x.reply ≡ true → x.lock ≡ called_lock (thread_part s t).cpu call → IsAtCall s t e
-in_call s t phase call e x at is can lock = record { call = call; at = at.calling; of = written (thread_part s t).cpu call e x is can lock }
+in_call : (s : State) (t : TaskId) (phase : Phase) (call : Call) (e x : Event) → IsIn s t phase call → e ≡ x → can_have call x.kind x.reply ≡ true → NamesFor x.kind (thread_part s t).cpu call x → IsAtCall s t e
+in_call s t phase call e x at is can names = record { call = call; at = at.calling; of = written (thread_part s t).cpu call e x is can names }
+
+-- of a task that gets the lock
+got_call : (s : State) (t : TaskId) (l : LockId) (e x : Event) → IsAcquiring s t l → e ≡ x → IsOfCall (thread_part s t).cpu (calls.Lock l) x → IsOfCall (thread_part s t).cpu (calls.TryLock l) x → IsAtCall s t e
+got_call s t l e x acquiring is waits tries = record { call = acquiring.call; at = acquiring.calling; of = subst (IsOfCall (thread_part s t).cpu acquiring.call) (sym is) (by_call acquiring.acquires) }
+  where
+    by_call : IsAcquireOf l acquiring.call → IsOfCall (thread_part s t).cpu acquiring.call x
+    by_call (inl same) = subst (λ (call : Call). IsOfCall (thread_part s t).cpu call x) (sym same) waits
+    by_call (inr same) = subst (λ (call : Call). IsOfCall (thread_part s t).cpu call x) (sym same) tries
+
+-- of a walk, which has an answer where a short one ends
+walk_call : (s : State) (t : TaskId) (route : Route) (u : TaskId) (next : Option Phase) (e x : Event) → WalksIn s t route u → e ≡ x → x.reply ≡ answer_of_walk route next → ((call : Call) → NamesFor x.kind (thread_part s t).cpu call x)
+    → ((l : LockId) → can_have (calls.Lock l) x.kind None ≡ true) → ((v : TaskId) (prio : ℕ) → can_have (calls.SetPrio v prio) x.kind (answer_of_walk (Short replies.Done) next) ≡ true) → IsAtCall s t e
+walk_call s t route u next e x (by_full path l same at) is reply names waits sets =
+    let none : x.reply ≡ None = reply ∙ ap (λ (r : Route). answer_of_walk r next) same in
+    in_call s t _ (calls.Lock l) e x at is (ap (can_have (calls.Lock l) x.kind) none ∙ waits l) (names (calls.Lock l))
+walk_call s t route u next e x (by_short v prio same at) is reply names waits sets =
+    let short : x.reply ≡ answer_of_walk (Short replies.Done) next = reply ∙ ap (λ (r : Route). answer_of_walk r next) same in
+    in_call s t _ (calls.SetPrio v prio) e x at is (ap (can_have (calls.SetPrio v prio) x.kind) short ∙ sets v prio) (names (calls.SetPrio v prio))
+
+-- a short walk's link, and a setprio, are answered or not
+walk-can : (v : TaskId) (prio : ℕ) (next : Option Phase) → can_have (calls.SetPrio v prio) kinds.Walk (answer_of_walk (Short replies.Done) next) ≡ true
+walk-can v prio None = refl
+walk-can v prio (Some phase) = refl
+
+setprio-can : (v : TaskId) (prio : ℕ) (next : Option Phase) → can_have (calls.SetPrio v prio) kinds.SetPrio (answer_of_walk (Short replies.Done) next) ≡ true
+setprio-can v prio None = refl
+setprio-can v prio (Some phase) = refl
 
 its_call : (s : State) (t : TaskId) (e : Event) → IsStaged s → IsNext s t e → IsAtCall s t e
 its_call s t e staged (by_own call answer is) = record { call = call; at = is.at.calling; of = own-of s t call answer e staged is }
-its_call s t e staged (by_acquire l (is_fast is)) = in_call s t _ _ e _ is.at is.event refl refl
-its_call s t e staged (by_acquire l (is_mark is)) = in_call s t _ _ e _ is.at is.event refl refl
-its_call s t e staged (by_acquire l (is_take is)) = in_call s t _ _ e _ is.at is.event refl refl
-its_call s t e staged (by_wait l (is_wait is)) = in_call s t _ _ e _ is.at is.event refl refl
-its_call s t e staged (by_wait l (is_again is)) = in_call s t _ _ e _ is.at is.event refl refl
-its_call s t e staged (by_release l (is_free is)) = in_call s t _ _ e _ is.at is.event refl refl
-its_call s t e staged (by_release l (is_give is)) = in_call s t _ _ e _ is.at is.event refl refl
+its_call s t e staged (by_acquire l (is_fast is)) = got_call s t l e _ (fast-acquiring s t l is.how) is.event (record { can = refl; names = (refl, refl, refl) }) (record { can = refl; names = (refl, refl, refl) })
+its_call s t e staged (by_acquire l (is_take is)) = got_call s t l e _ (take-acquiring s t l is.how) is.event (record { can = refl; names = (refl, refl, refl) }) (record { can = refl; names = (refl, refl, refl) })
+its_call s t e staged (by_acquire l (is_mark is)) = in_call s t _ _ e _ is.at is.event refl (refl, refl, refl)
+its_call s t e staged (by_acquire l (is_busy is)) = in_call s t _ _ e _ is.at is.event refl (refl, refl, refl)
+its_call s t e staged (by_wait l (is_wait is)) = in_call s t _ _ e _ is.at is.event refl (refl, refl, refl)
+its_call s t e staged (by_wait l (is_again is)) = in_call s t _ _ e _ is.at is.event refl (refl, refl, refl)
+its_call s t e staged (by_release l (is_free is)) = in_call s t _ _ e _ is.at is.event refl (refl, refl, refl)
+its_call s t e staged (by_release l (is_give is)) = in_call s t _ _ e _ is.at is.event refl (refl, refl, refl)
+its_call s t e staged (by_walk route u (is_walk l key is)) = walk_call s t route u _ e _ is.how is.event refl (λ call. (refl, refl, refl)) (λ m. refl) (λ v prio. walk-can v prio _)
+its_call s t e staged (by_walk route u (is_walkend is)) = walk_call s t route u None e _ is.how is.event refl (λ call. (refl, refl, refl)) (λ m. refl) (λ v prio. refl)
+its_call s t e staged (by_setprio u prio is) = in_call s t _ _ e _ is.at is.event (setprio-can u prio _) (refl, refl, refl)
+
+-- ---- an event of a walk
+
+-- it stands at its cursor
+stands-at : (s : State) (t : TaskId) (route : Route) (u : TaskId) → WalksIn s t route u → StandsAt u (thread_part s t).phase
+stands-at s t route u how = subst (StandsAt u) (sym (walk-phase s t route u how)) refl
+
+of-walk : (s : State) (e : Event) → IsNext s e.task e → is_of_walk e.kind ≡ true → IsOfWalk s e
+of-walk s e (by_walk route u (is_walk l key is)) walks = record {
+  cursor = u;
+  named = ap (λ (x : Event). x.other) is.event;
+  stands = stands-at s e.task route u is.how;
+  lock = ap (λ (x : Event). x.lock) is.event ∙ sym (ap blocking is.blocked);
+}
+of-walk s e (by_walk route u (is_walkend is)) walks = record {
+  cursor = u;
+  named = ap (λ (x : Event). x.other) is.event;
+  stands = stands-at s e.task route u is.how;
+  lock = ap (λ (x : Event). x.lock) is.event ∙ sym (ap blocking is.blocked);
+}
+of-walk s e (by_own call answer is) walks = absurd (other_kind is_of_walk e _ is.event refl walks)
+of-walk s e (by_acquire l (is_fast is)) walks = absurd (other_kind is_of_walk e _ is.event refl walks)
+of-walk s e (by_acquire l (is_mark is)) walks = absurd (other_kind is_of_walk e _ is.event refl walks)
+of-walk s e (by_acquire l (is_take is)) walks = absurd (other_kind is_of_walk e _ is.event refl walks)
+of-walk s e (by_acquire l (is_busy is)) walks = absurd (other_kind is_of_walk e _ is.event refl walks)
+of-walk s e (by_wait l (is_wait is)) walks = absurd (other_kind is_of_walk e _ is.event refl walks)
+of-walk s e (by_wait l (is_again is)) walks = absurd (other_kind is_of_walk e _ is.event refl walks)
+of-walk s e (by_release l (is_free is)) walks = absurd (other_kind is_of_walk e _ is.event refl walks)
+of-walk s e (by_release l (is_give is)) walks = absurd (other_kind is_of_walk e _ is.event refl walks)
+of-walk s e (by_setprio u prio is) walks = absurd (other_kind is_of_walk e _ is.event refl walks)
 
 -- ---- what an event leaves of a thread's count
 
@@ -259,4 +329,8 @@ module _ (script : Script) (events : List Event) (lawful : IsLawful (start scrip
       omega arith
 
   pub calls-law : CallsLaw script events
-  calls-law = record { made = made-calls; all = all-calls }
+  calls-law = record {
+    made = made-calls;
+    all = all-calls;
+    walks = λ prefix rest e is walks. let s = after (start script) prefix in of-walk s e (next-there (start script) 0 events lawful run prefix rest e is) walks;
+  }

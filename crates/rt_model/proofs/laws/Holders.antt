@@ -16,10 +16,12 @@ use Rattle.rt_model.specs.Run.{after, IsRun}
 use Rattle.rt_model.specs.laws.Lawful.{IsLawful}
 use Rattle.rt_model.specs.laws.Owners.{owned_by}
 use Rattle.rt_model.specs.laws.Holders.{acquires, releases, owner_after, is_on, holders_of, HoldersLaw}
-use Rattle.rt_model.proofs.NextEvents.{IsNext, by_own, by_acquire, by_wait, by_release}
-use Rattle.rt_model.proofs.events.Acquire.{is_fast, is_mark, is_take}
+use Rattle.rt_model.proofs.NextEvents.{IsNext, by_own, by_acquire, by_wait, by_release, by_walk, by_setprio}
+use Rattle.rt_model.proofs.events.Acquire.{is_fast, is_mark, is_take, is_busy}
 use Rattle.rt_model.proofs.events.Wait.{is_wait, is_again}
 use Rattle.rt_model.proofs.events.Release.{is_free, is_give}
+use Rattle.rt_model.proofs.events.Walk.{is_walk, is_walkend}
+use Rattle.rt_model.proofs.Links.{requeued-owner}
 use Rattle.rt_model.proofs.PartsAfter.{read-update, read-update_other, kept-at}
 use Rattle.rt_model.proofs.Numbers.{same_lock, same_task}
 use Rattle.rt_model.proofs.Queues.{unowned-can_take}
@@ -61,6 +63,7 @@ owner-by_kind kinds.Fast e thread found locks l lt = owner-written locks e.lock 
 owner-by_kind kinds.Take e thread found locks l lt = owner-written locks e.lock l _ (Some e.task) lt (λ lock. refl)
 owner-by_kind kinds.Free e thread found locks l lt = owner-written locks e.lock l _ None lt (λ lock. refl)
 owner-by_kind kinds.Give e thread found locks l lt = owner-written locks e.lock l _ None lt (λ lock. refl)
+owner-by_kind kinds.Walk e thread found locks l lt = owner-left locks e.lock e.lock l (effect kinds.Walk e thread found).lock (requeued-owner e.other found.other)
 owner-by_kind kind e thread found locks l lt = owner-left locks (touched kind e).lock e.lock l (effect kind e thread found).lock (λ lock. refl)
 
 -- one event more, whatever it is, where its lock is there
@@ -73,12 +76,12 @@ told-from : (s : State) (made : ℕ) (events : List Event) (l : LockId) (owner :
 told-from s made [] l owner lawful run is = is
 told-from s made (e ∷ events) l owner lawful run is =
     told-from (state_after s e) (suc made) events l (cond (is_on e.lock l) (owner_after e owner) owner) (run-lawful s made e events lawful run) run.1
-    (ap (λ o. cond (is_on e.lock l) (owner_after e o) o) is ∙ sym (owner-step s e l (within s e.task e lawful.shape (run-next s made e events lawful run)).lock))
+    (ap (λ o. cond (is_on e.lock l) (owner_after e o) o) is ∙ sym (owner-step s e l (within s made e.task e lawful (run-next s made e events lawful run)).lock))
 
 -- ---- who gets a lock, and who leaves it
 
 -- an event that comes about as one of a kind that fails a test
-other_kind : (test : EventKind → Bool) (e x : Event) → e ≡ x → test x.kind ≡ false → test e.kind ≡ true → ⊥
+pub other_kind : (test : EventKind → Bool) (e x : Event) → e ≡ x → test x.kind ≡ false → test e.kind ≡ true → ⊥
 other_kind test e x is fails passes = let same : test e.kind ≡ test x.kind = ap (λ (y : Event). test y.kind) is in cc
 
 -- an event on lock m that is told to be on lock l
@@ -95,10 +98,14 @@ acquires-free s t e l (by_acquire m (is_take is)) named gets =
     on_lock (λ k. (owner_part s k).owner ≡ None) e _ m l is.event refl named (unowned-can_take t (kind_of (thread_part s t) m) (owner_part s m) (task_part s t) is.can)
 acquires-free s t e l (by_acquire m (is_mark is)) named gets = absurd (other_kind acquires e _ is.event refl gets)
 acquires-free s t e l (by_own call answer is) named gets = absurd (other_kind acquires e _ is.event refl gets)
+acquires-free s t e l (by_acquire m (is_busy is)) named gets = absurd (other_kind acquires e _ is.event refl gets)
 acquires-free s t e l (by_wait m (is_wait is)) named gets = absurd (other_kind acquires e _ is.event refl gets)
 acquires-free s t e l (by_wait m (is_again is)) named gets = absurd (other_kind acquires e _ is.event refl gets)
 acquires-free s t e l (by_release m (is_free is)) named gets = absurd (other_kind acquires e _ is.event refl gets)
 acquires-free s t e l (by_release m (is_give is)) named gets = absurd (other_kind acquires e _ is.event refl gets)
+acquires-free s t e l (by_walk route u (is_walk m key is)) named gets = absurd (other_kind acquires e _ is.event refl gets)
+acquires-free s t e l (by_walk route u (is_walkend is)) named gets = absurd (other_kind acquires e _ is.event refl gets)
+acquires-free s t e l (by_setprio u prio is) named gets = absurd (other_kind acquires e _ is.event refl gets)
 
 owned_by-some : (owner : Option TaskId) (t : TaskId) → owned_by owner t ≡ true → owner ≡ Some t
 owned_by-some None t is = cc
@@ -113,11 +120,15 @@ releases-own : (s : State) (made : ℕ) (t : TaskId) (e : Event) (l : LockId) �
 releases-own s made t e l lawful (by_release m (is_free is)) named gone = on_lock (λ k. (owner_part s k).owner ≡ Some t) e _ m l is.event refl named (held-owned s made t m lawful is.held)
 releases-own s made t e l lawful (by_release m (is_give is)) named gone = on_lock (λ k. (owner_part s k).owner ≡ Some t) e _ m l is.event refl named (held-owned s made t m lawful is.held)
 releases-own s made t e l lawful (by_own call answer is) named gone = absurd (other_kind releases e _ is.event refl gone)
+releases-own s made t e l lawful (by_acquire m (is_busy is)) named gone = absurd (other_kind releases e _ is.event refl gone)
 releases-own s made t e l lawful (by_acquire m (is_fast is)) named gone = absurd (other_kind releases e _ is.event refl gone)
 releases-own s made t e l lawful (by_acquire m (is_mark is)) named gone = absurd (other_kind releases e _ is.event refl gone)
 releases-own s made t e l lawful (by_acquire m (is_take is)) named gone = absurd (other_kind releases e _ is.event refl gone)
 releases-own s made t e l lawful (by_wait m (is_wait is)) named gone = absurd (other_kind releases e _ is.event refl gone)
 releases-own s made t e l lawful (by_wait m (is_again is)) named gone = absurd (other_kind releases e _ is.event refl gone)
+releases-own s made t e l lawful (by_walk route u (is_walk m key is)) named gone = absurd (other_kind releases e _ is.event refl gone)
+releases-own s made t e l lawful (by_walk route u (is_walkend is)) named gone = absurd (other_kind releases e _ is.event refl gone)
+releases-own s made t e l lawful (by_setprio u prio is) named gone = absurd (other_kind releases e _ is.event refl gone)
 
 -- ---- over a run, from a state in which nobody owns a lock
 

@@ -6,6 +6,7 @@ use Rattle.rt_base.specs.Kind.{spins}
 use Rattle.rt_base.specs.Script.{Script}
 use Rattle.rt_base.specs.declared.call.Call.{Call}
 use Rattle.rt_base.specs.declared.call.Call.TheVariants as calls
+use Rattle.rt_base.specs.declared.id.TaskId.{TaskId}
 use Rattle.rt_base.specs.declared.kind.Kind.{Kind}
 use Rattle.rt_base.specs.declared.kind.Kind.TheVariants.{Mutex}
 use Rattle.rt_base.specs.declared.reply.Reply.{Reply}
@@ -18,15 +19,18 @@ use Rattle.rt_model.specs.Parts.{OwnerPart, TaskPart, ThreadPart, call_of, effec
 use Rattle.rt_model.specs.Rows.{is_of}
 use Rattle.rt_model.specs.State.{State, Shared, shared, thread_part, kinds_in}
 use Rattle.rt_model.specs.steps.Task.{rest_of}
+use Rattle.rt_model.specs.steps.Chain.{requeued_where_old}
 use Rattle.rt_model.specs.Effect.{Touched, Around, Effect, around}
 use Rattle.rt_model.specs.Rules.{touched, effect}
 use Rattle.rt_model.specs.StateAfter.{update, effect_in, lock_left, tasks_left, shared_after, thread_after, state_after}
 use Rattle.rt_model.specs.steps.Thread.{holds_after, answered_with}
 use Rattle.rt_model.specs.Stage.{IsServed, IsStaged}
-use Rattle.rt_model.specs.laws.Shape.{IsShaped, IsOf, SameSize}
+use Rattle.rt_model.specs.laws.Shape.{IsShaped, IsOf, IsWithin, SameSize}
 use Rattle.rt_model.proofs.Lists.{length-update, All-update, All-default, length-at_lock, length-at_task, All-at_lock, All-at_task}
 use Rattle.rt_model.proofs.Queues.{All-insert_row}
-use Rattle.rt_model.proofs.CellStepLemmas.{leave_queue-like, blocked_on-like, lock_woken-like, length-with_top}
+use Rattle.rt_model.proofs.CellStepLemmas.{leave_queue-like, blocked_on-like, lock_woken-like, length-with_top, length-where_changed}
+use Rattle.rt_model.proofs.Links.{requeued-owner}
+use Rattle.rt_model.proofs.Named.{requeued_within}
 use Rattle.rt_model.proofs.PartsAfter.{OthersKeep, thread-phase}
 use Rattle.rt_model.proofs.Within.{HoldsFit}
 use Rattle.std.proofs.lemmas.List.{length-map}
@@ -43,8 +47,8 @@ KeptFits n task = length task.kept ≡ n
 abbrev pub KindsFit : ℕ → ThreadPart → Type 0
 KindsFit n thread = length thread.kinds ≡ n
 
-abbrev pub AreServed : ℕ → ThreadPart → Type 0
-AreServed n thread = All (IsServed n) thread.calls
+abbrev pub AreServed : ℕ → ℕ → ThreadPart → Type 0
+AreServed m n thread = All (IsServed m n) thread.calls
 
 abbrev pub AreMutexes : ThreadPart → Type 0
 AreMutexes thread = All (λ (kind : Kind). kind ≡ Mutex) thread.kinds
@@ -56,12 +60,18 @@ owner-left n kinds.Fast e th found lt lock is = lt
 owner-left n kinds.Free e th found lt lock is = tt
 owner-left n kinds.Take e th found lt lock is = lt
 owner-left n kinds.Give e th found lt lock is = tt
+owner-left n kinds.Walk e th found lt lock is = subst (λ (o : Option TaskId). IfSome o (λ t. t.0 < n)) (sym (requeued-owner e.other found.other lock)) is
 owner-left n _ e th found lt lock is = is
 
-rows-left : (n : ℕ) (kind : EventKind) (e : Event) (th : ThreadPart) (found : Around) → e.task.0 < n → (lock : OwnerPart) → RowsIn n lock → RowsIn n ((effect kind e th found).lock lock)
-rows-left n kinds.Take e th found lt lock all = All-filter (λ row. not (is_of e.task row)) (λ (row : Row). row.who < n) lock.rows all
-rows-left n kinds.Wait e th found lt lock all = All-insert_row (λ (row : Row). row.who < n) (record { key = effective_of found.own; ticket = lock.ticket; who = e.task.0 }) lock.rows lt all
-rows-left n _ e th found lt lock all = all
+requeued-rows : (n : ℕ) (u : Option TaskId) (task : TaskPart) (lock : OwnerPart) → IfSome u (λ t. t.0 < n) → RowsIn n lock → RowsIn n (requeued_where_old u task lock)
+requeued-rows n None task lock lt all = all
+requeued-rows n (Some u) task lock lt all = requeued_within n u task lock lt all
+
+rows-left : (n : ℕ) (kind : EventKind) (e : Event) (th : ThreadPart) (found : Around) → e.task.0 < n → IfSome e.other (λ t. t.0 < n) → (lock : OwnerPart) → RowsIn n lock → RowsIn n ((effect kind e th found).lock lock)
+rows-left n kinds.Walk e th found lt other lock all = requeued-rows n e.other found.other lock other all
+rows-left n kinds.Take e th found lt other lock all = All-filter (λ row. not (is_of e.task row)) (λ (row : Row). row.who < n) lock.rows all
+rows-left n kinds.Wait e th found lt other lock all = All-insert_row (λ (row : Row). row.who < n) (record { key = effective_of found.own; ticket = lock.ticket; who = e.task.0 }) lock.rows lt all
+rows-left n _ e th found lt other lock all = all
 
 -- ---- a task
 
@@ -74,6 +84,11 @@ fits-own n _ e th found lock task fits = fits
 fits-others : (n : ℕ) (kind : EventKind) (e : Event) (th : ThreadPart) (found : Around) (lock : OwnerPart) → OthersKeep (KeptFits n) (effect kind e th found) lock
 fits-others n kinds.Wait e th found lock = record { owner = λ task fits. length-with_top e.lock _ task ∙ fits; other = λ task fits. fits; woken = λ task fits. fits }
 fits-others n kinds.Give e th found lock = record { owner = λ task fits. fits; other = λ task fits. fits; woken = λ task fits. ap length (lock_woken-like (spins (kind_named th e.lock)) task).like.kept ∙ fits }
+fits-others n kinds.Walk e th found lock = record {
+  owner = λ task fits. length-where_changed e.lock found.lock.rows lock.rows task ∙ fits;
+  other = λ task fits. fits;
+  woken = λ task fits. ap length (lock_woken-like (spins (kind_named th e.lock)) task).like.kept ∙ fits;
+}
 fits-others n _ e th found lock = record { owner = λ task fits. fits; other = λ task fits. fits; woken = λ task fits. fits }
 
 -- ---- a thread
@@ -87,6 +102,7 @@ pub record KeepsThread (before after : ThreadPart) : Type 0 where
 
 length-holds_after : (thread : ThreadPart) (call : Option Call) (answer : Reply) → length (holds_after thread call answer) ≡ length thread.holds
 length-holds_after thread (Some (calls.Lock l)) replies.Got = simp length-set
+length-holds_after thread (Some (calls.TryLock l)) replies.Got = simp length-set
 length-holds_after thread (Some (calls.Unlock l)) replies.Done = simp length-set
 length-holds_after thread call answer = refl
 
@@ -131,35 +147,38 @@ module _ (s : State) (e : Event) (lt : e.task.0 < length s.threads) where
   threads-keep : (P : ThreadPart → Type 0) → ((after : ThreadPart) → KeepsThread (thread_part s e.task) after → P (thread_part s e.task) → P after) → All P s.threads → All P (state_after s e).threads
   threads-keep P keeps all = All-update P s.threads e.task.0 _ (λ old was. keeps _ (thread-keeps (shared s) (thread_part s e.task) e) (All-default P s.threads e.task.0 _ all lt)) all
 
-  pub IsShaped-after : IsShaped s → IsShaped (state_after s e)
-  IsShaped-after shaped =
-      let th = thread_part s e.task in
-      let found = around (shared s) (touched e.kind e) in
-      let lock = lock_left (shared s) th e in
-      let n = length s.locks in
-      record {
-        few_tasks = rw threads shaped.few_tasks;
-        few_locks = rw locks shaped.few_locks;
-        readers = length-at_lock s.readers (touched e.kind e).readers _ ∙ (shaped.readers ∙ sym locks);
-        tasks = tasks ∙ (shaped.tasks ∙ sym threads);
-        kept = subst (λ (k : ℕ). All (KeptFits k) (state_after s e).tasks) (sym locks)
-            (tasks-keep (KeptFits n) (touched e.kind e) (effect_in (shared s) th e) lock s.tasks (fits-own n e.kind e th found lock) (fits-others n e.kind e th found lock) shaped.kept);
-        kinds = subst (λ (k : ℕ). All (KindsFit k) (state_after s e).threads) (sym locks) (threads-keep (KindsFit n) (λ after is was. ap length is.kinds ∙ was) shaped.kinds);
-        holds = subst (λ (k : ℕ). All (HoldsFit k) (state_after s e).threads) (sym locks) (threads-keep (HoldsFit n) (λ after is was. is.holds ∙ was) shaped.holds);
-        owners = subst (λ (k : ℕ). All (OwnerIn k) (state_after s e).locks) (sym threads)
-            (All-at_lock (OwnerIn (length s.threads)) s.locks (touched e.kind e).lock _ (owner-left (length s.threads) e.kind e th found lt) shaped.owners);
-        rows = subst (λ (k : ℕ). All (RowsIn k) (state_after s e).locks) (sym threads)
-            (All-at_lock (RowsIn (length s.threads)) s.locks (touched e.kind e).lock _ (rows-left (length s.threads) e.kind e th found lt) shaped.rows);
-      }
-
   -- how far the stage goes
   pub IsStaged-after : IsStaged s → IsStaged (state_after s e)
   IsStaged-after staged = record {
-    one_lock = rw locks staged.one_lock;
     mutexes = threads-keep AreMutexes (λ after is was. subst (All (λ (kind : Kind). kind ≡ Mutex)) (sym is.kinds) was) staged.mutexes;
-    served = subst (λ (k : ℕ). All (AreServed k) (state_after s e).threads) (sym locks)
-        (threads-keep (AreServed (length s.locks)) (λ after is was. subst (All (IsServed (length s.locks))) (sym is.calls) was) staged.served);
+    served = subst (λ (k : ℕ). All (AreServed k (length (state_after s e).locks)) (state_after s e).threads) (sym threads)
+        (subst (λ (k : ℕ). All (AreServed (length s.threads) k) (state_after s e).threads) (sym locks)
+        (threads-keep (AreServed (length s.threads) (length s.locks)) (λ after is was. subst (All (IsServed (length s.threads) (length s.locks))) (sym is.calls) was) staged.served));
   }
+
+-- an event that names what is there leaves lists that fit together
+pub IsShaped-after : (s : State) (e : Event) → IsWithin (length s.threads) (length s.locks) e → IsShaped s → IsShaped (state_after s e)
+IsShaped-after s e within shaped =
+    let th = thread_part s e.task in
+    let found = around (shared s) (touched e.kind e) in
+    let lock = lock_left (shared s) th e in
+    let n = length s.locks in
+    let same_locks = locks s e within.task in
+    let same_threads = threads s e within.task in
+    record {
+      few_tasks = rw same_threads shaped.few_tasks;
+      few_locks = rw same_locks shaped.few_locks;
+      readers = length-at_lock s.readers (touched e.kind e).readers _ ∙ (shaped.readers ∙ sym same_locks);
+      tasks = tasks s e within.task ∙ (shaped.tasks ∙ sym same_threads);
+      kept = subst (λ (k : ℕ). All (KeptFits k) (state_after s e).tasks) (sym same_locks)
+          (tasks-keep (KeptFits n) (touched e.kind e) (effect_in (shared s) th e) lock s.tasks (fits-own n e.kind e th found lock) (fits-others n e.kind e th found lock) shaped.kept);
+      kinds = subst (λ (k : ℕ). All (KindsFit k) (state_after s e).threads) (sym same_locks) (threads-keep s e within.task (KindsFit n) (λ after is was. ap length is.kinds ∙ was) shaped.kinds);
+      holds = subst (λ (k : ℕ). All (HoldsFit k) (state_after s e).threads) (sym same_locks) (threads-keep s e within.task (HoldsFit n) (λ after is was. is.holds ∙ was) shaped.holds);
+      owners = subst (λ (k : ℕ). All (OwnerIn k) (state_after s e).locks) (sym same_threads)
+          (All-at_lock (OwnerIn (length s.threads)) s.locks (touched e.kind e).lock _ (owner-left (length s.threads) e.kind e th found within.task) shaped.owners);
+      rows = subst (λ (k : ℕ). All (RowsIn k) (state_after s e).locks) (sym same_threads)
+          (All-at_lock (RowsIn (length s.threads)) s.locks (touched e.kind e).lock _ (rows-left (length s.threads) e.kind e th found within.task within.other) shaped.rows);
+    }
 
 -- ---- the script
 

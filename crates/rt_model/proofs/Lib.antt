@@ -20,8 +20,9 @@ pub mod Local
 pub mod Within
 pub mod Waiters
 pub mod Named
--- what a link of a walk leaves, a walk's end, and a setprio
+-- what a link of a walk leaves, a walk's end, and a setprio, and how a walk goes on
 pub mod Links
+pub mod Routes
 -- the laws, one a file, and that a next event keeps all of them
 pub mod laws
 pub mod Lawful

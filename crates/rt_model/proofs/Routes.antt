@@ -1,5 +1,7 @@
 -- How a walk goes on.
-use Rattle.std.proofs.Common.{◌≡◌, true, refl, Option, Some, None}
+use Rattle.std.proofs.Common.{◌≡◌, ℕ, true, List, [], ◌∷◌, ◌++◌, refl, sym, subst, Option, Some, None}
+use Rattle.rt_base.specs.declared.id.LockId.{LockId}
+use Rattle.rt_base.specs.declared.reply.Reply.{Reply}
 use Rattle.std.proofs.lemmas.Bool.{cond_both}
 use Rattle.rt_base.specs.declared.id.TaskId.{TaskId}
 use Rattle.rt_model.specs.declared.phase.Phase.{Phase}
@@ -7,7 +9,7 @@ use Rattle.rt_model.specs.declared.phase.Phase.TheVariants as phases
 use Rattle.rt_model.specs.declared.phase.Route.{Route}
 use Rattle.rt_model.specs.declared.phase.Route.TheVariants.{Full, Short}
 use Rattle.rt_model.specs.Parts.{TaskPart, ThreadPart}
-use Rattle.rt_model.specs.steps.Chain.{goes_on_to, route_to, goes_on, phase_of_walk}
+use Rattle.rt_model.specs.steps.Chain.{followed, path_before, goes_on_to, route_to, goes_on, phase_of_walk}
 use Rattle.rt_model.proofs.Links.{walked_thread}
 
 -- what holds where it ends, and where it stands at the task that it goes on to
@@ -22,3 +24,32 @@ walked-phase thread (Full path) None = refl
 walked-phase thread (Full path) (Some phase) = refl
 walked-phase thread (Short answer) None = refl
 walked-phase thread (Short answer) (Some phase) = refl
+
+-- ---- the routes of one walk
+
+-- two routes are both full, or both short with one answer
+pub data SameSort (route onward : Route) : Type 0 where
+  both_full : (path rest : List (ℕ × ℕ)) → route ≡ Full path → onward ≡ Full rest → SameSort route onward
+  both_short : (answer : Reply) → route ≡ Short answer → onward ≡ Short answer → SameSort route onward
+
+pub SameSort-itself : (route : Route) → SameSort route route
+SameSort-itself (Full path) = both_full path path refl refl
+SameSort-itself (Short answer) = both_short answer refl refl
+
+pub SameSort-followed : (u : TaskId) (l : LockId) (route : Route) → SameSort route (followed u l route)
+SameSort-followed u l (Full path) = both_full path (path ++ (u.0, l.0) ∷ []) refl refl
+SameSort-followed u l (Short answer) = both_short answer refl refl
+
+-- a thread whose walk goes on, or ends, where it may go on along these routes
+pub walked-holds : (P : Route → ThreadPart → Type 0) (thread : ThreadPart) (route onward : Route) (owner : Option TaskId) (task : TaskPart) → SameSort route onward
+    → ((path : List (ℕ × ℕ)) → P (Full path) (walked_thread thread (Full path) None)) → ((path rest : List (ℕ × ℕ)) (o : TaskId) → P (Full path) (record thread { phase = phases.Walk o (Full rest) }))
+    → ((answer : Reply) → P (Short answer) (walked_thread thread (Short answer) None)) → ((answer : Reply) (o : TaskId) → P (Short answer) (record thread { phase = phases.Walk o (Short answer) }))
+    → P route (walked_thread thread route (goes_on onward owner task))
+walked-holds P thread route onward owner task (both_full path rest same also) waits goes done begins =
+    subst (λ (r : Route). P r (walked_thread thread r (goes_on onward owner task))) (sym same)
+    (subst (λ (r : Route). P (Full path) (walked_thread thread (Full path) (goes_on r owner task))) (sym also)
+    (goes_on-holds (λ next. P (Full path) (walked_thread thread (Full path) next)) (Full rest) owner task (waits path) (λ o some is. goes path (path_before o rest) o)))
+walked-holds P thread route onward owner task (both_short answer same also) waits goes done begins =
+    subst (λ (r : Route). P r (walked_thread thread r (goes_on onward owner task))) (sym same)
+    (subst (λ (r : Route). P (Short answer) (walked_thread thread (Short answer) (goes_on r owner task))) (sym also)
+    (goes_on-holds (λ next. P (Short answer) (walked_thread thread (Short answer) next)) (Short answer) owner task (done answer) (λ o some is. begins answer o)))

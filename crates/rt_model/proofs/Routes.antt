@@ -1,16 +1,24 @@
 -- How a walk goes on.
 use Rattle.std.proofs.Common.{◌≡◌, ℕ, true, List, [], ◌∷◌, ◌++◌, refl, sym, subst, Option, Some, None}
+use Rattle.rt_base.specs.declared.call.Call.TheVariants as calls
 use Rattle.rt_base.specs.declared.id.LockId.{LockId}
 use Rattle.rt_base.specs.declared.reply.Reply.{Reply}
+use Rattle.rt_base.specs.declared.reply.Reply.TheVariants.{Done}
 use Rattle.std.proofs.lemmas.Bool.{cond_both}
 use Rattle.rt_base.specs.declared.id.TaskId.{TaskId}
 use Rattle.rt_model.specs.declared.phase.Phase.{Phase}
 use Rattle.rt_model.specs.declared.phase.Phase.TheVariants as phases
 use Rattle.rt_model.specs.declared.phase.Route.{Route}
 use Rattle.rt_model.specs.declared.phase.Route.TheVariants.{Full, Short}
-use Rattle.rt_model.specs.Parts.{TaskPart, ThreadPart}
+use Rattle.rt_model.specs.Parts.{TaskPart, ThreadPart, call_of}
+use Rattle.rt_model.specs.State.{State, thread_part}
+use Rattle.rt_model.specs.Stage.{IsPhaseOf}
+use Rattle.rt_model.specs.laws.Phases.{PhasesLaw}
 use Rattle.rt_model.specs.steps.Chain.{followed, path_before, goes_on_to, route_to, goes_on, phase_of_walk}
+use Rattle.rt_model.proofs.Calling.{IsIn}
 use Rattle.rt_model.proofs.Links.{walked_thread}
+use Rattle.rt_model.proofs.Waiters.{walk-phase}
+use Rattle.rt_model.proofs.events.Walk.{WalksIn}
 
 -- what holds where it ends, and where it stands at the task that it goes on to
 pub goes_on-holds : (P : Option Phase → Type 0) (route : Route) (owner : Option TaskId) (task : TaskPart) → P None
@@ -24,6 +32,13 @@ walked-phase thread (Full path) None = refl
 walked-phase thread (Full path) (Some phase) = refl
 walked-phase thread (Short answer) None = refl
 walked-phase thread (Short answer) (Some phase) = refl
+
+-- a walk stands in its task's call, and one that a setprio begins in that
+pub walk-fits : (s : State) (t : TaskId) (route : Route) (u : TaskId) → PhasesLaw s → WalksIn s t route u → IsPhaseOf (phases.Walk u route) (call_of (thread_part s t))
+walk-fits s t route u law how = subst (λ (p : Phase). IsPhaseOf p (call_of (thread_part s t))) (walk-phase s t route u how) (law t)
+
+pub setprio-fits : (s : State) (t u : TaskId) (prio : ℕ) → IsIn s t phases.Start (calls.SetPrio u prio) → IsPhaseOf (phases.Walk u (Short Done)) (call_of (thread_part s t))
+setprio-fits s t u prio at = subst (IsPhaseOf (phases.Walk u (Short Done))) (sym at.calling) refl
 
 -- ---- the routes of one walk
 

@@ -1,5 +1,5 @@
 -- A next event keeps the phases law.
-use Rattle.std.proofs.Common.{◌≡◌, ℕ, ◌<◌, Bool, true, List, length, refl, sym, subst, Option, Some, None}
+use Rattle.std.proofs.Common.{◌≡◌, ℕ, ◌<◌, Bool, true, List, length, sym, subst, Option, Some, None}
 use Rattle.rt_base.specs.declared.call.Call.{Call}
 use Rattle.rt_base.specs.declared.call.Call.TheVariants as calls
 use Rattle.rt_base.specs.declared.id.LockId.{LockId}
@@ -24,11 +24,10 @@ use Rattle.rt_model.proofs.NextEvents.{IsNext, by_own, by_acquire, by_wait, by_r
 use Rattle.rt_model.proofs.events.Wait.{is_wait, is_again}
 use Rattle.rt_model.proofs.events.Acquire.{is_fast, is_mark, is_take, is_busy}
 use Rattle.rt_model.proofs.events.Release.{is_free, is_give}
-use Rattle.rt_model.proofs.events.Walk.{WalksIn, is_walk, is_walkend}
+use Rattle.rt_model.proofs.events.Walk.{is_walk, is_walkend}
 use Rattle.rt_model.proofs.Links.{walked_thread, link-thread, end-thread, setprio-thread}
 use Rattle.rt_model.proofs.PartsAfter.{thread-made}
-use Rattle.rt_model.proofs.Routes.{SameSort, SameSort-itself, SameSort-followed, walked-holds}
-use Rattle.rt_model.proofs.Waiters.{walk-phase}
+use Rattle.rt_model.proofs.Routes.{walk-fits, setprio-fits, SameSort, SameSort-itself, SameSort-followed, walked-holds}
 
 abbrev Phased : ThreadPart → Type 0
 Phased thread = IsPhaseOf thread.phase (call_of thread)
@@ -72,9 +71,6 @@ PhasesLaw-next s made t e lawful next u = by_kind next
     own : (x : Event) → e ≡ x → x.task.0 < length s.threads → Phased (thread_after (shared s) (thread_part s x.task) x) → Phased (thread_part (state_after s e) u)
     own x is lt phased = thread-made (λ v. Phased) s e x u is lt phased (λ others. lawful.phases u)
 
-    walking : (route : Route) (v : TaskId) → WalksIn s t route v → IsPhaseOf (phases.Walk v route) (call_of (thread_part s t))
-    walking route v how = subst (λ (p : Phase). IsPhaseOf p (call_of (thread_part s t))) (walk-phase s t route v how) (lawful.phases t)
-
     by_kind : IsNext s t e → Phased (thread_part (state_after s e) u)
     by_kind (by_own call answer is) = own _ is.event is.at.task tt
     by_kind (by_acquire l (is_fast is)) = own _ is.event is.task tt
@@ -87,11 +83,10 @@ PhasesLaw-next s made t e lawful next u = by_kind next
     by_kind (by_release l (is_give is)) = own _ is.event is.at.task tt
     by_kind (by_walk route v (is_walk l key is)) =
         own _ is.event is.task
-        (subst Phased (sym (link-thread s made t route v l key e lawful is)) (walk_phased (thread_part s t) v route (followed v l route) (owner_part s l).owner _ (SameSort-followed v l route) (walking route v is.how)))
+        (subst Phased (sym (link-thread s made t route v l key e lawful is)) (walk_phased (thread_part s t) v route (followed v l route) (owner_part s l).owner _ (SameSort-followed v l route) (walk-fits s t route v lawful.phases is.how)))
     by_kind (by_walk route v (is_walkend is)) =
-        own _ is.event is.task (subst Phased (sym (end-thread s t route v e is)) (walk_phased (thread_part s t) v route route None (task_part s v) (SameSort-itself route) (walking route v is.how)))
+        own _ is.event is.task (subst Phased (sym (end-thread s t route v e is)) (walk_phased (thread_part s t) v route route None (task_part s v) (SameSort-itself route) (walk-fits s t route v lawful.phases is.how)))
     by_kind (by_setprio v prio is) =
         own _ is.event is.at.task
         (subst Phased (sym (setprio-thread s made t v prio e lawful is))
-        (walk_phased (thread_part s t) v (Short Done) (Short Done) (Some v) (with_own prio (task_part s v)) (SameSort-itself (Short Done))
-        (phased_in (thread_part s t) (phases.Walk v (Short Done)) (calls.SetPrio v prio) is.at.calling refl)))
+        (walk_phased (thread_part s t) v (Short Done) (Short Done) (Some v) (with_own prio (task_part s v)) (SameSort-itself (Short Done)) (setprio-fits s t v prio is.at)))

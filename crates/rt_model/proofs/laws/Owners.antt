@@ -11,23 +11,32 @@ use Rattle.rt_base.specs.declared.reply.Reply.{Reply}
 use Rattle.rt_base.specs.declared.reply.Reply.TheVariants as replies
 use Rattle.rt_model.specs.declared.event.Event.{Event}
 use Rattle.rt_model.specs.declared.hold.Hold.{Hold}
-use Rattle.rt_model.specs.Parts.{OwnerPart, ThreadPart, call_of, hold_of, kind_of}
+use Rattle.rt_model.specs.declared.phase.Phase.TheVariants as phases
+use Rattle.rt_model.specs.declared.phase.Route.{Route}
+use Rattle.rt_model.specs.declared.phase.Route.TheVariants.{Short}
+use Rattle.rt_model.specs.Parts.{OwnerPart, TaskPart, ThreadPart, call_of, hold_of, kind_of}
 use Rattle.rt_model.specs.State.{State, shared, owner_part, task_part, thread_part}
 use Rattle.rt_model.specs.Rules.{touched}
 use Rattle.rt_model.specs.events.Own.{unless_nested, if_held, if_not_held, private_answer}
 use Rattle.rt_model.specs.steps.Thread.{with_hold, holds_after}
 use Rattle.rt_model.specs.StateAfter.{effect_in, thread_after, state_after}
-use Rattle.rt_model.specs.Stage.{IsServed}
+use Rattle.rt_model.specs.Stage.{IsServed, IsPhaseOf}
+use Rattle.rt_model.specs.steps.Chain.{followed, goes_on}
+use Rattle.rt_model.specs.steps.Task.{with_own}
 use Rattle.rt_model.specs.laws.Owners.{OwnersLaw, owned_by}
 use Rattle.rt_model.specs.laws.Lawful.{IsLawful}
-use Rattle.rt_model.proofs.NextEvents.{IsNext, by_own, by_acquire, by_wait, by_release}
-use Rattle.rt_model.proofs.events.Acquire.{is_fast, is_mark, is_take}
+use Rattle.rt_model.proofs.Links.{walked_thread, link-thread, end-thread, setprio-thread}
+use Rattle.rt_model.proofs.NextEvents.{IsNext, by_own, by_acquire, by_wait, by_release, by_walk, by_setprio}
+use Rattle.rt_model.proofs.Owned.{changes_owner, owners-kept}
+use Rattle.rt_model.proofs.Routes.{walk-fits, setprio-fits, SameSort, SameSort-itself, SameSort-followed, walked-holds}
+use Rattle.rt_model.proofs.events.Acquire.{is_fast, is_mark, is_take, is_busy, IsAcquiring, fast-acquiring, take-acquiring, got-holds}
+use Rattle.rt_model.proofs.events.Walk.{is_walk, is_walkend}
 use Rattle.rt_model.proofs.events.Wait.{is_wait, is_again}
 use Rattle.rt_model.proofs.events.Release.{is_free, is_give}
 use Rattle.rt_model.proofs.Numbers.{number_itself, same_lock, nobodys, one_owner}
 use Rattle.rt_model.proofs.Queues.{unowned-can_take}
 use Rattle.rt_model.proofs.Within.{holds_room}
-use Rattle.rt_model.proofs.PartsAfter.{read-set_same, read-set_other, lock-made, lock-kept, thread-made}
+use Rattle.rt_model.proofs.PartsAfter.{read-set_same, read-set_other, lock-made, thread-made}
 
 -- ---- holds
 
@@ -54,17 +63,31 @@ never_done : (held : Bool) → if_not_held held ≡ Some replies.Done → ⊥
 never_done true is = cc
 never_done false is = cc
 
-refused_holds : (n : ℕ) (thread : ThreadPart) (call : Call) (answer : Reply) (kind : Option Kind) (nested : ℕ) (held : Bool) (migration : ℕ) → IsServed n call → private_answer call kind nested held migration ≡ Some answer
+refused_holds : (m n : ℕ) (thread : ThreadPart) (call : Call) (answer : Reply) (kind : Option Kind) (nested : ℕ) (held : Bool) (migration : ℕ) → IsServed m n call → private_answer call kind nested held migration ≡ Some answer
     → holds_after thread (Some call) answer ≡ thread.holds
-refused_holds n thread (calls.Lock l) replies.Got kind nested held migration served is = absurd (never_got nested held is)
-refused_holds n thread (calls.Lock l) _ kind nested held migration served is = refl
-refused_holds n thread (calls.Unlock l) replies.Done kind nested held migration served is = absurd (never_done held is)
-refused_holds n thread (calls.Unlock l) _ kind nested held migration served is = refl
-refused_holds n thread _ answer kind nested held migration served is = absurd served
+refused_holds m n thread (calls.Lock l) replies.Got kind nested held migration served is = absurd (never_got nested held is)
+refused_holds m n thread (calls.Lock l) _ kind nested held migration served is = refl
+refused_holds m n thread (calls.TryLock l) answer kind nested held migration served is = cc
+refused_holds m n thread (calls.Unlock l) replies.Done kind nested held migration served is = absurd (never_done held is)
+refused_holds m n thread (calls.Unlock l) _ kind nested held migration served is = refl
+refused_holds m n thread (calls.SetPrio u prio) answer kind nested held migration served is = refl
+refused_holds m n thread _ answer kind nested held migration served is = absurd served
 
 -- what the thread holds, as its call says
 holds_at : (thread : ThreadPart) (call : Call) (answer : Reply) → call_of thread ≡ Some call → holds_after thread (call_of thread) answer ≡ holds_after thread (Some call) answer
 holds_at thread call answer is = ap (λ (c : Option Call). holds_after thread c answer) is
+
+-- nor does the answer of a short walk
+short_holds : (thread : ThreadPart) (u : TaskId) (answer : Reply) (call : Option Call) → IsPhaseOf (phases.Walk u (Short answer)) call → holds_after thread call answer ≡ thread.holds
+short_holds thread u answer (Some (calls.SetPrio v prio)) fits = refl
+short_holds thread u answer _ fits = absurd fits
+
+-- so a walk leaves what its thread holds
+walk_holds : (thread : ThreadPart) (u : TaskId) (route onward : Route) (owner : Option TaskId) (task : TaskPart) → SameSort route onward → IsPhaseOf (phases.Walk u route) (call_of thread)
+    → (walked_thread thread route (goes_on onward owner task)).holds ≡ thread.holds
+walk_holds thread u route onward owner task sort =
+    walked-holds (λ r th. IsPhaseOf (phases.Walk u r) (call_of thread) → th.holds ≡ thread.holds) thread route onward owner task sort
+    (λ path fits. refl) (λ path rest o fits. refl) (λ answer. short_holds (record thread { phase = phases.Start }) u answer (call_of thread)) (λ answer o fits. refl)
 
 -- ---- owners
 
@@ -91,14 +114,13 @@ gives_there s l m o there = sym (cond-false (nat_eq l.0 m.0) o (owner_part s m).
 
 module _ (s : State) (made : ℕ) (e x : Event) (lawful : IsLawful s made) (is : e ≡ x) (there : x.task.0 < length s.threads) where
   -- an event that changes neither its thread's holds nor any owner
-  keep_owners : (thread_after (shared s) (thread_part s x.task) x).holds ≡ (thread_part s x.task).holds
-      → ((lock : OwnerPart) → ((effect_in (shared s) (thread_part s x.task) x).lock lock).owner ≡ lock.owner) → OwnersLaw (state_after s e)
+  keep_owners : (thread_after (shared s) (thread_part s x.task) x).holds ≡ (thread_part s x.task).holds → changes_owner x.kind ≡ false → OwnersLaw (state_after s e)
   keep_owners holds keeps m u =
       thread-made (λ v th. (hold_of th m).owns ≡ owned_by (owner_part (state_after s e) m).owner v) s e x u is there
       (ap (λ (hs : List Hold). (hold_of (record (thread_part s x.task) { holds = hs }) m).owns) holds ∙ was x.task) (λ other. was u)
     where
       was : (v : TaskId) → (hold_of (thread_part s v) m).owns ≡ owned_by (owner_part (state_after s e) m).owner v
-      was v = lawful.owners m v ∙ sym (lock-kept (λ lock. owned_by lock.owner v ≡ owned_by (owner_part s m).owner v) s e x m is refl (λ lock same. ap (λ (o : Option TaskId). owned_by o v) (keeps lock) ∙ same))
+      was v = lawful.owners m v ∙ sym (ap (λ (o : Option TaskId). owned_by o v) (owners-kept s e x m is keeps))
 
   -- an event that gives its task a lock that nobody owns, or frees one that it owns
   change_owner : (l : LockId) (o : Option TaskId) → (touched x.kind x).lock ≡ Some l → l.0 < length s.locks
@@ -126,17 +148,31 @@ OwnersLaw-next s made t e lawful next = by_kind next
     its_before : (l : LockId) → (hold_of (thread_part s t) l).owns ≡ true → (u : TaskId) → nat_eq t.0 u.0 ≡ false → (false ≡ false) × (owned_by (owner_part s l).owner u ≡ false)
     its_before l held u other = (refl, one_owner (owner_part s l).owner t u (sym (lawful.owners l t) ∙ held) other)
 
-    taken : (l : LockId) → call_of (thread_part s t) ≡ Some (calls.Lock l) → holds_after (thread_part s t) (call_of (thread_part s t)) replies.Got ≡ with_hold (thread_part s t) l (owned_by (Some t) t)
-    taken l calling = holds_at (thread_part s t) (calls.Lock l) replies.Got calling ∙ ap (with_hold (thread_part s t) l) (sym (number_itself t.0))
+    taken : (l : LockId) → IsAcquiring s t l → holds_after (thread_part s t) (call_of (thread_part s t)) replies.Got ≡ with_hold (thread_part s t) l (owned_by (Some t) t)
+    taken l acquiring = got-holds s t l acquiring ∙ ap (with_hold (thread_part s t) l) (sym (number_itself t.0))
+
+    -- a walk, whose thread is left so
+    walked : (x : Event) (u : TaskId) (route onward : Route) (owner : Option TaskId) (task : TaskPart) → e ≡ x → x.task.0 < length s.threads
+        → thread_after (shared s) (thread_part s x.task) x ≡ walked_thread (thread_part s x.task) route (goes_on onward owner task) → SameSort route onward → IsPhaseOf (phases.Walk u route) (call_of (thread_part s x.task))
+        → changes_owner x.kind ≡ false → OwnersLaw (state_after s e)
+    walked x u route onward owner task is lt left sort fits = keep_owners s made e x lawful is lt (ap (λ (th : ThreadPart). th.holds) left ∙ walk_holds (thread_part s x.task) u route onward owner task sort fits)
 
     by_kind : IsNext s t e → OwnersLaw (state_after s e)
     by_kind (by_own call answer is) =
-        keep_owners s made e _ lawful is.event is.at.task (holds_at (thread_part s t) call answer is.at.calling ∙ refused_holds (length s.locks) (thread_part s t) call answer _ _ _ _ is.at.served is.why) (λ lock. refl)
-    by_kind (by_acquire l (is_mark is)) = keep_owners s made e _ lawful is.event is.at.task refl (λ lock. refl)
-    by_kind (by_wait l (is_wait is)) = keep_owners s made e _ lawful is.event is.at.task refl (λ lock. refl)
-    by_kind (by_wait l (is_again is)) = keep_owners s made e _ lawful is.event is.at.task refl (λ lock. refl)
-    by_kind (by_acquire l (is_fast is)) = change_owner s made e _ lawful is.event is.at.task l (Some t) refl is.at.served (taken l is.at.calling) refl (nobodys_before l is.owner)
+        keep_owners s made e _ lawful is.event is.at.task
+        (holds_at (thread_part s t) call answer is.at.calling ∙ refused_holds (length s.threads) (length s.locks) (thread_part s t) call answer _ _ _ _ is.at.served is.why) refl
+    by_kind (by_acquire l (is_mark is)) = keep_owners s made e _ lawful is.event is.at.task refl refl
+    by_kind (by_acquire l (is_busy is)) = keep_owners s made e _ lawful is.event is.at.task (holds_at (thread_part s t) (calls.TryLock l) replies.Busy is.at.calling) refl
+    by_kind (by_wait l (is_wait is)) = keep_owners s made e _ lawful is.event is.at.task refl refl
+    by_kind (by_wait l (is_again is)) = keep_owners s made e _ lawful is.event is.at.task refl refl
+    by_kind (by_acquire l (is_fast is)) = change_owner s made e _ lawful is.event is.task l (Some t) refl is.lock (taken l (fast-acquiring s t l is.how)) refl (nobodys_before l is.owner)
     by_kind (by_acquire l (is_take is)) =
-        change_owner s made e _ lawful is.event is.at.task l (Some t) refl is.at.served (taken l is.at.calling) refl (nobodys_before l (unowned-can_take t (kind_of (thread_part s t) l) (owner_part s l) (task_part s t) is.can))
+        change_owner s made e _ lawful is.event is.task l (Some t) refl is.lock (taken l (take-acquiring s t l is.how)) refl (nobodys_before l (unowned-can_take t (kind_of (thread_part s t) l) (owner_part s l) (task_part s t) is.can))
     by_kind (by_release l (is_free is)) = change_owner s made e _ lawful is.event is.at.task l None refl is.at.served (holds_at (thread_part s t) (calls.Unlock l) replies.Done is.at.calling) refl (its_before l is.held)
     by_kind (by_release l (is_give is)) = change_owner s made e _ lawful is.event is.at.task l None refl is.at.served (holds_at (thread_part s t) (calls.Unlock l) replies.Done is.at.calling) refl (its_before l is.held)
+    by_kind (by_walk route u (is_walk l key is)) =
+        walked _ u route (followed u l route) (owner_part s l).owner _ is.event is.task (link-thread s made t route u l key e lawful is) (SameSort-followed u l route) (walk-fits s t route u lawful.phases is.how) refl
+    by_kind (by_walk route u (is_walkend is)) =
+        walked _ u route route None (task_part s u) is.event is.task (end-thread s t route u e is) (SameSort-itself route) (walk-fits s t route u lawful.phases is.how) refl
+    by_kind (by_setprio u prio is) =
+        walked _ u (Short replies.Done) (Short replies.Done) (Some u) (with_own prio (task_part s u)) is.event is.at.task (setprio-thread s made t u prio e lawful is) (SameSort-itself (Short replies.Done)) (setprio-fits s t u prio is.at) refl

@@ -1,34 +1,44 @@
 -- A next event keeps the queued law.
-use Rattle.std.proofs.Common.{◌≡◌, ℕ, ◌<◌, false, length, refl, sym, ap, ◌∙◌, subst, Option, Some, None, IfSome}
+use Rattle.std.proofs.Common.{◌≡◌, ℕ, ◌<◌, Bool, true, false, length, refl, sym, ap, ◌∙◌, subst, Option, Some, None, IfSome}
 use Rattle.std.specs.Prelude.{nat_eq, option_and_then}
 use Rattle.rt_base.specs.declared.call.Call.{Call}
 use Rattle.rt_base.specs.declared.call.Call.TheVariants as calls
 use Rattle.rt_base.specs.declared.id.LockId.{LockId}
 use Rattle.rt_base.specs.declared.id.TaskId.{TaskId}
+use Rattle.rt_base.specs.declared.reply.Reply.TheVariants.{Done}
 use Rattle.rt_model.specs.declared.event.Event.{Event}
 use Rattle.rt_model.specs.declared.event_kind.EventKind.{EventKind}
 use Rattle.rt_model.specs.declared.event_kind.EventKind.TheVariants as kinds
 use Rattle.rt_model.specs.declared.phase.Phase.{Phase}
 use Rattle.rt_model.specs.declared.phase.Phase.TheVariants as phases
-use Rattle.rt_model.specs.Parts.{OwnerPart, ThreadPart, call_of}
+use Rattle.rt_model.specs.declared.phase.Route.{Route}
+use Rattle.rt_model.specs.declared.phase.Route.TheVariants.{Short}
+use Rattle.rt_model.specs.Parts.{OwnerPart, TaskPart, ThreadPart}
 use Rattle.rt_model.specs.State.{State, shared, owner_part, task_part, thread_part}
 use Rattle.rt_model.specs.Choice.{called_lock}
 use Rattle.rt_model.specs.Effect.{Around, around}
 use Rattle.rt_model.specs.Rules.{touched, effect}
 use Rattle.rt_model.specs.StateAfter.{thread_after, state_after}
+use Rattle.rt_model.specs.events.Wait.{phase_after_wait}
+use Rattle.rt_model.specs.steps.Chain.{followed, goes_on}
+use Rattle.rt_model.specs.steps.Task.{with_own}
 use Rattle.rt_model.specs.laws.Lawful.{IsLawful}
 use Rattle.rt_model.specs.laws.Owners.{owned_by}
 use Rattle.rt_model.specs.laws.Queued.{QueuedLaw, present_lock, awaited_in, asked_in}
-use Rattle.rt_model.proofs.Blocked.{moves, blocked-other, blocked-kept, take-blocked, wait-blocked}
+use Rattle.rt_model.proofs.Blocked.{moves, changes_own, blocking-other, blocking-kept, blocked-kept, take-blocked, wait-blocked}
 use Rattle.rt_model.proofs.Calling.{IsIn}
+use Rattle.rt_model.proofs.Links.{walked_thread, requeued-owner, link-thread, end-thread, setprio-thread}
 use Rattle.rt_model.proofs.Lists.{if_some}
-use Rattle.rt_model.proofs.NextEvents.{IsNext, by_own, by_acquire, by_wait, by_release, task-IsNext}
-use Rattle.rt_model.proofs.events.Acquire.{is_fast, is_mark, is_take}
+use Rattle.rt_model.proofs.NextEvents.{IsNext, by_own, by_acquire, by_wait, by_release, by_walk, by_setprio, task-IsNext}
+use Rattle.rt_model.proofs.Owned.{changes_owner, owners-kept}
+use Rattle.rt_model.proofs.events.Acquire.{AcquiresIn, by_lock, by_trylock, is_fast, is_mark, is_take, is_busy}
 use Rattle.rt_model.proofs.events.Wait.{is_wait, is_again}
 use Rattle.rt_model.proofs.events.Release.{is_free, is_give}
+use Rattle.rt_model.proofs.events.Walk.{is_walk, is_walkend}
 use Rattle.rt_model.proofs.Numbers.{at_each_task}
 use Rattle.rt_model.proofs.PartsAfter.{lock-kept, thread-own, thread-other}
-use Rattle.rt_model.proofs.Waiters.{blocking, start-blocked, slow-unowned, owner_runs, phase_after_wait-Wait}
+use Rattle.rt_model.proofs.Routes.{SameSort, SameSort-itself, SameSort-followed, walked-holds}
+use Rattle.rt_model.proofs.Waiters.{blocking, start-blocked, slow-unowned, walk-phase}
 
 -- ---- the law at one task
 
@@ -37,30 +47,45 @@ record IsQueuedAt (s : State) (u : TaskId) : Type 0 where
   waiting : IfSome (task_part s u).blocked (λ at. owned_by (owner_part s at.0).owner u ≡ false)
   asking : IfSome (asked_in (thread_part s u).phase (present_lock (thread_part s u))) (λ l. owned_by (owner_part s l).owner u ≡ false)
 
--- in this phase of a call on this lock, blocked on this
-stands : (s : State) (u : TaskId) (phase : Phase) (lock : Option LockId) (blocked : Option (LockId × ℕ)) → (thread_part s u).phase ≡ phase → present_lock (thread_part s u) ≡ lock → (task_part s u).blocked ≡ blocked
-    → blocking blocked ≡ awaited_in phase lock → IfSome blocked (λ at. owned_by (owner_part s at.0).owner u ≡ false) → IfSome (asked_in phase lock) (λ l. owned_by (owner_part s l).owner u ≡ false)
-    → IsQueuedAt s u
-stands s u phase lock blocked in_phase on at same waiting asking =
-    let Free : LockId → Type 0 = λ l. owned_by (owner_part s l).owner u ≡ false in
-    record {
-      blocked = ap blocking at ∙ (same ∙ sym (ap (awaited_in phase) on) ∙ sym (ap (λ (p : Phase). awaited_in p (present_lock (thread_part s u))) in_phase));
-      waiting = subst (λ (b : Option (LockId × ℕ)). IfSome b (λ a. Free a.0)) (sym at) waiting;
-      asking = subst (λ (p : Phase). IfSome (asked_in p (present_lock (thread_part s u))) Free) (sym in_phase) (subst (λ (m : Option LockId). IfSome (asked_in phase m) Free) (sym on) asking);
-    }
+-- the task doesn't own the lock
+abbrev Free : State → TaskId → LockId → Type 0
+Free s u l = owned_by (owner_part s l).owner u ≡ false
 
--- where the thread and what its task is blocked on stay
-stays : (s next : State) (u : TaskId) → thread_part next u ≡ thread_part s u → (task_part next u).blocked ≡ (task_part s u).blocked
-    → ((l : LockId) → owned_by (owner_part s l).owner u ≡ false → owned_by (owner_part next l).owner u ≡ false) → QueuedLaw s → IsQueuedAt next u
-stays s next u thread blocked unowned law =
-    let Free : State → LockId → Type 0 = λ z l. owned_by (owner_part z l).owner u ≡ false in
-    record {
-      blocked = ap blocking blocked ∙ (law.blocked u ∙ sym (ap (λ (th : ThreadPart). awaited_in th.phase (present_lock th)) thread));
-      waiting = subst (λ (b : Option (LockId × ℕ)). IfSome b (λ at. Free next at.0)) (sym blocked)
-          (if_some (task_part s u).blocked (λ at. Free s at.0) (λ at. Free next at.0) (λ at is. unowned at.0) (law.waiting u));
-      asking = subst (λ (th : ThreadPart). IfSome (asked_in th.phase (present_lock th)) (λ l. Free next l)) (sym thread)
-          (if_some (asked_in (thread_part s u).phase (present_lock (thread_part s u))) (Free s) (Free next) (λ l is. unowned l) (law.asking u));
-    }
+-- what holds of the lock on which a task is blocked
+if_blocking : (P : LockId → Type 0) (blocked : Option (LockId × ℕ)) → IfSome blocked (λ at. P at.0) → IfSome (blocking blocked) P
+if_blocking P None is = tt
+if_blocking P (Some at) is = is
+
+if_blocked : (P : LockId → Type 0) (blocked : Option (LockId × ℕ)) → IfSome (blocking blocked) P → IfSome blocked (λ at. P at.0)
+if_blocked P None is = tt
+if_blocked P (Some at) is = is
+
+-- a thread that waits for this lock, and asks for that one
+record Wants (awaited asked : Option LockId) (thread : ThreadPart) : Type 0 where
+  waits : awaited_in thread.phase (present_lock thread) ≡ awaited
+  asks : asked_in thread.phase (present_lock thread) ≡ asked
+
+stands : (s : State) (u : TaskId) (awaited asked : Option LockId) → Wants awaited asked (thread_part s u) → blocking (task_part s u).blocked ≡ awaited → IfSome awaited (Free s u) → IfSome asked (Free s u) → IsQueuedAt s u
+stands s u awaited asked wants at waiting asking = record {
+  blocked = at ∙ sym wants.waits;
+  waiting = if_blocked (Free s u) (task_part s u).blocked (subst (λ (o : Option LockId). IfSome o (Free s u)) (sym at) waiting);
+  asking = subst (λ (o : Option LockId). IfSome o (Free s u)) (sym wants.asks) asking;
+}
+
+-- one that waits for the same as before, and is blocked on the same
+stays : (s next : State) (u : TaskId) (asked : Option LockId) → Wants (awaited_in (thread_part s u).phase (present_lock (thread_part s u))) asked (thread_part next u) → blocking (task_part next u).blocked ≡ blocking (task_part s u).blocked
+    → ((l : LockId) → Free s u l → Free next u l) → IfSome asked (Free next u) → QueuedLaw s → IsQueuedAt next u
+stays s next u asked wants blocked unowned asking law =
+    let awaited : Option LockId = awaited_in (thread_part s u).phase (present_lock (thread_part s u)) in
+    let waiting : IfSome awaited (Free s u) = subst (λ (o : Option LockId). IfSome o (Free s u)) (law.blocked u) (if_blocking (Free s u) (task_part s u).blocked (law.waiting u)) in
+    stands next u awaited asked wants (blocked ∙ law.blocked u) (if_some awaited (Free s u) (Free next u) (λ l is. unowned l) waiting) asking
+
+-- and whose thread is as it was
+stays_as : (s next : State) (u : TaskId) → thread_part next u ≡ thread_part s u → blocking (task_part next u).blocked ≡ blocking (task_part s u).blocked → ((l : LockId) → Free s u l → Free next u l) → QueuedLaw s → IsQueuedAt next u
+stays_as s next u thread blocked unowned law =
+    let asked : Option LockId = asked_in (thread_part s u).phase (present_lock (thread_part s u)) in
+    stays s next u asked (record { waits = ap (λ (th : ThreadPart). awaited_in th.phase (present_lock th)) thread; asks = ap (λ (th : ThreadPart). asked_in th.phase (present_lock th)) thread }) blocked unowned
+    (if_some asked (Free s u) (Free next u) (λ l is. unowned l) (law.asking u)) law
 
 -- ---- of other tasks, after any event
 
@@ -70,53 +95,93 @@ unowned-left kinds.Fast e th found lock u other is = other
 unowned-left kinds.Take e th found lock u other is = other
 unowned-left kinds.Free e th found lock u other is = refl
 unowned-left kinds.Give e th found lock u other is = refl
+unowned-left kinds.Walk e th found lock u other is = ap (λ (o : Option TaskId). owned_by o u) (requeued-owner e.other found.other lock) ∙ is
 unowned-left _ e th found lock u other is = is
 
 queued_other : (s : State) (e : Event) (u : TaskId) → QueuedLaw s → nat_eq e.task.0 u.0 ≡ false → IsQueuedAt (state_after s e) u
 queued_other s e u law other =
-    stays s (state_after s e) u (thread-other s e u other) (blocked-other s e u other)
+    stays_as s (state_after s e) u (thread-other s e u other) (blocking-other s e u other)
     (λ l unowned. lock-kept (λ lock. owned_by lock.owner u ≡ false) s e e l refl unowned (λ lock. unowned-left e.kind e (thread_part s e.task) (around (shared s) (touched e.kind e)) lock u other)) law
 
 -- ---- of the event's task
 
-module _ (s : State) (made : ℕ) (e : Event) (lawful : IsLawful s made) where
-  -- an event that answers leaves its task at the start of a call
-  answers : (x : Event) → e ≡ x → x.task.0 < length s.threads → (thread_after (shared s) (thread_part s x.task) x).phase ≡ phases.Start → (task_part (state_after s e) x.task).blocked ≡ None → IsQueuedAt (state_after s e) x.task
-  answers x is lt start none =
-      stands (state_after s e) x.task phases.Start (present_lock (thread_part (state_after s e) x.task)) None (ap (λ (th : ThreadPart). th.phase) (thread-own s e x is lt) ∙ start) refl none refl tt tt
+-- a walk that goes on waits for the same as before, and one that ends waits as well, or answers
+walk_wants : (thread : ThreadPart) (u : TaskId) (route onward : Route) (owner : Option TaskId) (task : TaskPart) → SameSort route onward
+    → Wants (awaited_in (phases.Walk u route) (present_lock thread)) None (walked_thread thread route (goes_on onward owner task))
+walk_wants thread u route onward owner task sort =
+    walked-holds (λ r th. Wants (awaited_in (phases.Walk u r) (present_lock thread)) None th) thread route onward owner task sort
+    (λ path. record { waits = refl; asks = refl }) (λ path rest o. record { waits = refl; asks = refl }) (λ answer. record { waits = refl; asks = refl }) (λ answer o. record { waits = refl; asks = refl })
+
+-- a task that has been queued waits
+wait_wants : (thread : ThreadPart) (t : TaskId) (l : LockId) (owner : Option TaskId) (blocked : Bool) → present_lock thread ≡ Some l → Wants (Some l) None (record thread { phase = phase_after_wait t (Some l) owner blocked })
+wait_wants thread t l (Some o) true on = record { waits = on; asks = refl }
+wait_wants thread t l (Some o) false on = record { waits = on; asks = refl }
+wait_wants thread t l None blocked on = record { waits = on; asks = refl }
+
+-- one at the start of a call waits for nothing
+start_wants : (thread : ThreadPart) → thread.phase ≡ phases.Start → Wants None None thread
+start_wants thread start = record { waits = ap (λ (p : Phase). awaited_in p (present_lock thread)) start; asks = ap (λ (p : Phase). asked_in p (present_lock thread)) start }
+
+present : (s : State) (t : TaskId) (phase : Phase) (l : LockId) → IsIn s t phase (calls.Lock l) → present_lock (thread_part s t) ≡ Some l
+present s t phase l at = ap (λ (call : Option Call). option_and_then (called_lock (thread_part s t).cpu) call) at.calling
+
+acquires-blocked : (s : State) (made : ℕ) (t : TaskId) (l : LockId) → IsLawful s made → AcquiresIn s t l → (task_part s t).blocked ≡ None
+acquires-blocked s made t l lawful (by_lock at unheld) = start-blocked s made t lawful (calls.Lock l) at
+acquires-blocked s made t l lawful (by_trylock at) = start-blocked s made t lawful (calls.TryLock l) at
+
+module _ (s : State) (made : ℕ) (e x : Event) (lawful : IsLawful s made) (is : e ≡ x) (there : x.task.0 < length s.threads) where
+  -- an event leaves its thread so, and its task blocked on what that waits for
+  own : (awaited asked : Option LockId) → Wants awaited asked (thread_after (shared s) (thread_part s x.task) x) → blocking (task_part (state_after s e) x.task).blocked ≡ awaited
+      → IfSome awaited (Free (state_after s e) x.task) → IfSome asked (Free (state_after s e) x.task) → IsQueuedAt (state_after s e) x.task
+  own awaited asked wants = stands (state_after s e) x.task awaited asked (subst (Wants awaited asked) (sym (thread-own s e x is there)) wants)
+
+  -- one that answers leaves its task at the start of a call
+  answers : (thread_after (shared s) (thread_part s x.task) x).phase ≡ phases.Start → (task_part (state_after s e) x.task).blocked ≡ None → IsQueuedAt (state_after s e) x.task
+  answers start none = own None None (start_wants (thread_after (shared s) (thread_part s x.task) x) start) (ap blocking none) tt tt
 
   -- where it is the call's only event, nothing has blocked the task
-  answers_at_once : (x : Event) (call : Call) → e ≡ x → IsIn s x.task phases.Start call → (thread_after (shared s) (thread_part s x.task) x).phase ≡ phases.Start → moves x.kind ≡ false → IsQueuedAt (state_after s e) x.task
-  answers_at_once x call is at start unmoved = answers x is at.task start (blocked-kept s e x x.task is unmoved ∙ start-blocked s made x.task lawful call at)
+  answers_at_once : (thread_after (shared s) (thread_part s x.task) x).phase ≡ phases.Start → moves x.kind ≡ false → (task_part s x.task).blocked ≡ None → IsQueuedAt (state_after s e) x.task
+  answers_at_once start unmoved none = answers start (blocked-kept s e x x.task is unmoved ∙ none)
 
-  -- one with no answer leaves it in this phase of its call
-  goes_on : (x : Event) (l : LockId) (phase : Phase) (blocked : Option (LockId × ℕ)) → e ≡ x → x.task.0 < length s.threads → call_of (thread_part s x.task) ≡ Some (calls.Lock l)
-      → (thread_after (shared s) (thread_part s x.task) x).phase ≡ phase → present_lock (thread_after (shared s) (thread_part s x.task) x) ≡ present_lock (thread_part s x.task)
-      → (task_part (state_after s e) x.task).blocked ≡ blocked → blocking blocked ≡ awaited_in phase (Some l)
-      → IfSome blocked (λ at. owned_by (owner_part (state_after s e) at.0).owner x.task ≡ false) → IfSome (asked_in phase (Some l)) (λ k. owned_by (owner_part (state_after s e) k).owner x.task ≡ false)
+  -- a lock that its task doesn't own
+  unowned : changes_owner x.kind ≡ false → (m : LockId) → Free s x.task m → Free (state_after s e) x.task m
+  unowned kept m was = ap (λ (o : Option TaskId). owned_by o x.task) (owners-kept s e x m is kept) ∙ was
+
+  -- a walk begins, goes on, or ends
+  walks : (u : TaskId) (route onward : Route) (owner : Option TaskId) (task : TaskPart) → thread_after (shared s) (thread_part s x.task) x ≡ walked_thread (thread_part s x.task) route (goes_on onward owner task) → SameSort route onward
+      → awaited_in (phases.Walk u route) (present_lock (thread_part s x.task)) ≡ awaited_in (thread_part s x.task).phase (present_lock (thread_part s x.task)) → changes_own x.kind ≡ false → changes_owner x.kind ≡ false
       → IsQueuedAt (state_after s e) x.task
-  goes_on x l phase blocked is lt calling in_phase same at =
-      stands (state_after s e) x.task phase (Some l) blocked (ap (λ (th : ThreadPart). th.phase) (thread-own s e x is lt) ∙ in_phase)
-      (ap present_lock (thread-own s e x is lt) ∙ (same ∙ ap (λ (call : Option Call). option_and_then (called_lock (thread_part s x.task).cpu) call) calling)) at
+  walks u route onward owner task left sort same unmoved kept =
+      let wants = walk_wants (thread_part s x.task) u route onward owner task sort in
+      stays s (state_after s e) x.task None
+      (subst (λ (o : Option LockId). Wants o None (thread_part (state_after s e) x.task)) same
+      (subst (Wants (awaited_in (phases.Walk u route) (present_lock (thread_part s x.task))) None) (sym (thread-own s e x is there ∙ left)) wants))
+      (blocking-kept s e x x.task is unmoved) (unowned kept) tt lawful.queued
 
 queued_own : (s : State) (made : ℕ) (t : TaskId) (e : Event) → IsLawful s made → IsNext s t e → IsQueuedAt (state_after s e) t
-queued_own s made t e lawful (by_own call answer is) = answers_at_once s made e lawful _ call is.event is.at refl refl
-queued_own s made t e lawful (by_acquire l (is_fast is)) = answers_at_once s made e lawful _ (calls.Lock l) is.event is.at refl refl
-queued_own s made t e lawful (by_release l (is_free is)) = answers_at_once s made e lawful _ (calls.Unlock l) is.event is.at refl refl
-queued_own s made t e lawful (by_release l (is_give is)) = answers_at_once s made e lawful _ (calls.Unlock l) is.event is.at refl refl
-queued_own s made t e lawful (by_acquire l (is_take is)) = answers s made e lawful _ is.event is.at.task refl (take-blocked s t e l lawful.shape is)
+queued_own s made t e lawful (by_own call answer is) = answers_at_once s made e _ lawful is.event is.at.task refl refl (start-blocked s made t lawful call is.at)
+queued_own s made t e lawful (by_acquire l (is_fast is)) = answers_at_once s made e _ lawful is.event is.task refl refl (acquires-blocked s made t l lawful is.how)
+queued_own s made t e lawful (by_acquire l (is_busy is)) = answers_at_once s made e _ lawful is.event is.at.task refl refl (start-blocked s made t lawful (calls.TryLock l) is.at)
+queued_own s made t e lawful (by_release l (is_free is)) = answers_at_once s made e _ lawful is.event is.at.task refl refl (start-blocked s made t lawful (calls.Unlock l) is.at)
+queued_own s made t e lawful (by_release l (is_give is)) = answers_at_once s made e _ lawful is.event is.at.task refl refl (start-blocked s made t lawful (calls.Unlock l) is.at)
+queued_own s made t e lawful (by_acquire l (is_take is)) = answers s made e _ lawful is.event is.task refl (take-blocked s t e l lawful.shape is)
 queued_own s made t e lawful (by_acquire l (is_mark is)) =
-    let unowned : owned_by (owner_part s l).owner t ≡ false = sym (lawful.owners l t) ∙ is.unheld in
-    goes_on s made e lawful _ l phases.Slow None is.event is.at.task is.at.calling refl refl
-    (blocked-kept s e _ t is.event refl ∙ start-blocked s made t lawful (calls.Lock l) is.at) refl tt
-    (lock-kept (λ lock. owned_by lock.owner t ≡ false) s e _ l is.event unowned (λ lock was. was))
+    own s made e _ lawful is.event is.at.task None (Some l) (record { waits = refl; asks = present s t phases.Start l is.at })
+    (ap blocking (blocked-kept s e _ t is.event refl ∙ start-blocked s made t lawful (calls.Lock l) is.at)) tt (unowned s made e _ lawful is.event is.at.task refl l (sym (lawful.owners l t) ∙ is.unheld))
 queued_own s made t e lawful (by_wait l (is_wait is)) =
-    let unowned : owned_by (owner_part s l).owner t ≡ false = slow-unowned s made t lawful l is.at in
-    goes_on s made e lawful _ l phases.Wait _ is.event is.at.task is.at.calling (phase_after_wait-Wait t (Some l) (owner_part s l).owner _ (owner_runs s made l lawful is.at.served)) refl
-    (wait-blocked s t e l lawful.shape is) refl (lock-kept (λ lock. owned_by lock.owner t ≡ false) s e _ l is.event unowned (λ lock was. was)) tt
+    own s made e _ lawful is.event is.at.task (Some l) None (wait_wants (thread_part s t) t l (owner_part s l).owner _ (present s t phases.Slow l is.at)) (ap blocking (wait-blocked s t e l lawful.shape is))
+    (unowned s made e _ lawful is.event is.at.task refl l (slow-unowned s made t lawful l is.at)) tt
 queued_own s made t e lawful (by_wait l (is_again is)) =
-    stays s (state_after s e) t (thread-own s e _ is.event is.at.task) (blocked-kept s e _ t is.event refl)
-    (λ m unowned. lock-kept (λ lock. owned_by lock.owner t ≡ false) s e _ m is.event unowned (λ lock was. was)) lawful.queued
+    stays_as s (state_after s e) t (thread-own s e _ is.event is.at.task) (blocking-kept s e _ t is.event refl) (unowned s made e _ lawful is.event is.at.task refl) lawful.queued
+queued_own s made t e lawful (by_walk route u (is_walk l key is)) =
+    walks s made e _ lawful is.event is.task u route (followed u l route) (owner_part s l).owner _ (link-thread s made t route u l key e lawful is) (SameSort-followed u l route)
+    (sym (ap (λ (p : Phase). awaited_in p (present_lock (thread_part s t))) (walk-phase s t route u is.how))) refl refl
+queued_own s made t e lawful (by_walk route u (is_walkend is)) =
+    walks s made e _ lawful is.event is.task u route route None (task_part s u) (end-thread s t route u e is) (SameSort-itself route)
+    (sym (ap (λ (p : Phase). awaited_in p (present_lock (thread_part s t))) (walk-phase s t route u is.how))) refl refl
+queued_own s made t e lawful (by_setprio u prio is) =
+    walks s made e _ lawful is.event is.at.task u (Short Done) (Short Done) (Some u) (with_own prio (task_part s u)) (setprio-thread s made t u prio e lawful is) (SameSort-itself (Short Done))
+    (sym (ap (λ (p : Phase). awaited_in p (present_lock (thread_part s t))) is.at.phased)) refl refl
 
 -- ---- the law
 

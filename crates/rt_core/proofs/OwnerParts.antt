@@ -1,7 +1,8 @@
 -- The owner parts of lock cells.
-use Rattle.std.proofs.Common.{◌≡◌, ◌∙◌, ℕ, zero, suc, ◌<◌, List, [], ◌∷◌, length, refl, ap, arith, get_or, unwrap_or}
+use Rattle.std.proofs.Common.{◌≡◌, ◌∙◌, ℕ, zero, suc, ◌<◌, List, [], ◌∷◌, length, refl, ap, arith, get_or, replicate, unwrap_or}
 use Rattle.std.specs.Prelude.{slice_get, slice_set}
 use Rattle.rt_model.specs.Parts.{OwnerPart}
+use Rattle.rt_model.specs.State.{free_lock}
 use Rattle.rt_model.specs.StateAfter.{update}
 use Rattle.rt_locks.specs.OwnerCell.{OwnerCell}
 use Rattle.rt_core.specs.Shared.{parts_of}
@@ -9,6 +10,11 @@ use Rattle.rt_core.specs.Shared.{parts_of}
 pub length-parts : (cells : List OwnerCell) → length (parts_of cells) ≡ length cells
 length-parts [] = refl
 length-parts (cell ∷ cells) = ap suc (length-parts cells)
+
+-- the parts of free cells
+pub parts-replicate : (n tasks : ℕ) → parts_of (replicate n (record { part = free_lock; tasks = tasks })) ≡ replicate n free_lock
+parts-replicate zero tasks = refl
+parts-replicate (suc n) tasks = ap (λ parts. free_lock ∷ parts) (parts-replicate n tasks)
 
 -- the part of the cell at a place
 pub parts-at : (cells : List OwnerCell) (i : ℕ) (cell : OwnerCell) (d : OwnerPart) → i < length cells → unwrap_or (slice_get (parts_of cells) i) d ≡ (get_or cells i cell).part

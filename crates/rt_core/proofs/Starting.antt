@@ -1,8 +1,12 @@
--- The cells that a core begins with fit together.
-use Rattle.std.proofs.Common.{◌≡◌, ◌∙◌, ◌≤◌, ap, sym, subst, refl, replicate, length, ℕ, map, List, All}
+-- The cells that a core begins with fit together, and its calls are served.
+use Rattle.std.proofs.Common.{◌≡◌, ◌∙◌, ◌≤◌, ap, sym, subst, refl, arith, replicate, length, ℕ, map, List, All}
 use Rattle.std.proofs.lemmas.List.{length-map, length-replicate}
 use Rattle.std.proofs.lemmas.List.Elements.{All-replicate}
 use Rattle.rt_base.specs.Script.{TaskLine}
+use Rattle.rt_base.specs.declared.call.Call.{Call}
+use Rattle.rt_base.specs.declared.call.Call.TheVariants as calls
+use Rattle.rt_base.specs.declared.limits.TheConstants.{MAX_TASKS}
+use Rattle.rt_model.specs.Stage.{IsServed}
 use Rattle.rt_model.specs.declared.reader_cell.ReaderCell.{ReaderCell}
 use Rattle.rt_model.specs.Parts.{TaskPart}
 use Rattle.rt_model.specs.State.{free_lock, fresh_task}
@@ -27,3 +31,11 @@ start-fits n lines cells readers tasks r few_locks few_tasks is_cells is_readers
       readers = parts ∙ sym locks;
       kept = rw locks (subst (λ (xs : List TaskPart). All (λ (task : TaskPart). length task.kept ≡ n) xs) (sym is_tasks) (All-made (λ (task : TaskPart). length task.kept ≡ n) (λ (line : TaskLine). fresh_task n line.own) (λ line. length-replicate n _) lines));
     }
+
+-- a call that is served among so many tasks is so among as many as there may be
+pub served-more : (tasks locks : ℕ) (call : Call) → tasks ≤ MAX_TASKS → IsServed tasks locks call → IsServed MAX_TASKS locks call
+served-more tasks locks (calls.Lock l) few served = served
+served-more tasks locks (calls.TryLock l) few served = served
+served-more tasks locks (calls.Unlock l) few served = served
+served-more tasks locks (calls.SetPrio t prio) few served = (omega (arith, served.0, few), served.1)
+served-more tasks locks _ few served = absurd served

@@ -6,6 +6,9 @@ use Rattle.rt_model.specs.State.{fresh_thread, kinds_in}
 use Rattle.rt_model.specs.Stage.{IsServed}
 use Rattle.rt_model.proofs.Lists.{All-default}
 use Rattle.rt_model.proofs.Starts.{calls_within, served_calls}
+use Rattle.std.proofs.lemmas.List.Elements.{All-weaker}
+use Rattle.rt_base.specs.declared.limits.TheConstants.{MAX_TASKS}
+use Rattle.rt_core.proofs.Starting.{served-more}
 use Rattle.rt_core.proofs.Prefixes.{prefix-more}
 use Rattle.rt_core.proofs.start.threads.Goals as goal
 
@@ -28,9 +31,10 @@ new-requires-clause-served c =
     let lt : c.loop-t.t < length c.args.script.now.tasks = omega (arith, c.tasks-t-end.ensures.number) in
     let n = length c.args.script.now.locks in
     let long = ap length (c.as_slice.ensures.value ∙ c.in_ok-kinds.ensures) ∙ length-map c.args.script.now.locks (λ (line : LockLine). line.kind) in
-    let served : All (IsServed n) (task_line c.args.script.now (record { 0 = c.loop-t.t })).calls =
-    All-default (λ (line : TaskLine). All (IsServed n) line.calls) c.args.script.now.tasks c.loop-t.t _ (served_calls c.args.script.now c.tasks-t-end.ensures.valid c.requires) lt in
-    subst (λ (m : ℕ). All (IsServed m) c.calls.result.now) (sym long) (subst (λ (calls : List Call). All (IsServed n) calls) (sym c.calls.ensures) served)
+    let here : All (IsServed (length c.args.script.now.tasks) n) (task_line c.args.script.now (record { 0 = c.loop-t.t })).calls =
+    All-default (λ (line : TaskLine). All (IsServed (length c.args.script.now.tasks) n) line.calls) c.args.script.now.tasks c.loop-t.t _ (served_calls c.args.script.now c.tasks-t-end.ensures.valid c.requires) lt in
+    let served = All-weaker (IsServed (length c.args.script.now.tasks) n) (IsServed MAX_TASKS n) (λ call. served-more (length c.args.script.now.tasks) n call c.tasks-t-end.ensures.valid.tasks) _ here in
+    subst (λ (m : ℕ). All (IsServed MAX_TASKS m) c.calls.result.now) (sym long) (subst (λ (calls : List Call). All (IsServed MAX_TASKS n) calls) (sym c.calls.ensures) served)
 
 pub loop-t-preserved : goal.loop-t-preserved
 loop-t-preserved c =

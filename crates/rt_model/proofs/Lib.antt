@@ -25,6 +25,8 @@ pub mod Named
 pub mod Links
 pub mod Routes
 pub mod Owned
+-- the path of a full walk
+pub mod Paths
 -- the laws, one a file, and that a next event keeps all of them
 pub mod laws
 pub mod Lawful

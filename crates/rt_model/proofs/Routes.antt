@@ -1,9 +1,11 @@
 -- How a walk goes on.
-use Rattle.std.proofs.Common.{◌≡◌, ℕ, true, List, [], ◌∷◌, ◌++◌, refl, sym, subst, Option, Some, None}
+use Rattle.std.proofs.Common.{◌≡◌, ℕ, true, List, [], ◌∷◌, ◌++◌, refl, sym, ap, subst, Option, Some, None}
+use Rattle.rt_base.specs.declared.call.Call.{Call}
 use Rattle.rt_base.specs.declared.call.Call.TheVariants as calls
 use Rattle.rt_base.specs.declared.id.LockId.{LockId}
 use Rattle.rt_base.specs.declared.reply.Reply.{Reply}
 use Rattle.rt_base.specs.declared.reply.Reply.TheVariants.{Done}
+use Rattle.std.specs.Prelude.{option_and_then}
 use Rattle.std.proofs.lemmas.Bool.{cond_both}
 use Rattle.rt_base.specs.declared.id.TaskId.{TaskId}
 use Rattle.rt_model.specs.declared.phase.Phase.{Phase}
@@ -13,7 +15,9 @@ use Rattle.rt_model.specs.declared.phase.Route.TheVariants.{Full, Short}
 use Rattle.rt_model.specs.Parts.{TaskPart, ThreadPart, call_of}
 use Rattle.rt_model.specs.State.{State, thread_part}
 use Rattle.rt_model.specs.Stage.{IsPhaseOf}
+use Rattle.rt_model.specs.Choice.{called_lock}
 use Rattle.rt_model.specs.laws.Phases.{PhasesLaw}
+use Rattle.rt_model.specs.laws.Queued.{present_lock}
 use Rattle.rt_model.specs.steps.Chain.{followed, path_before, goes_on_to, route_to, goes_on, phase_of_walk}
 use Rattle.rt_model.proofs.Calling.{IsIn}
 use Rattle.rt_model.proofs.Links.{walked_thread}
@@ -39,6 +43,10 @@ walk-fits s t route u law how = subst (λ (p : Phase). IsPhaseOf p (call_of (thr
 
 pub setprio-fits : (s : State) (t u : TaskId) (prio : ℕ) → IsIn s t phases.Start (calls.SetPrio u prio) → IsPhaseOf (phases.Walk u (Short Done)) (call_of (thread_part s t))
 setprio-fits s t u prio at = subst (IsPhaseOf (phases.Walk u (Short Done))) (sym at.calling) refl
+
+-- the lock of a call that waits
+pub call-lock : (s : State) (t : TaskId) (phase : Phase) (l : LockId) → IsIn s t phase (calls.Lock l) → present_lock (thread_part s t) ≡ Some l
+call-lock s t phase l at = ap (λ (call : Option Call). option_and_then (called_lock (thread_part s t).cpu) call) at.calling
 
 -- ---- the routes of one walk
 

@@ -7,6 +7,7 @@ pub mod KeptTops
 pub mod Queued
 pub mod AwakeTop
 pub mod Keys
+pub mod Walks
 pub mod States
 pub mod OwnPriorities
 pub mod Holders

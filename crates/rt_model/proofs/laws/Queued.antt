@@ -1,7 +1,6 @@
 -- A next event keeps the queued law.
 use Rattle.std.proofs.Common.{◌≡◌, ℕ, ◌<◌, Bool, true, false, length, refl, sym, ap, ◌∙◌, subst, Option, Some, None, IfSome}
-use Rattle.std.specs.Prelude.{nat_eq, option_and_then}
-use Rattle.rt_base.specs.declared.call.Call.{Call}
+use Rattle.std.specs.Prelude.{nat_eq}
 use Rattle.rt_base.specs.declared.call.Call.TheVariants as calls
 use Rattle.rt_base.specs.declared.id.LockId.{LockId}
 use Rattle.rt_base.specs.declared.id.TaskId.{TaskId}
@@ -15,7 +14,6 @@ use Rattle.rt_model.specs.declared.phase.Route.{Route}
 use Rattle.rt_model.specs.declared.phase.Route.TheVariants.{Short}
 use Rattle.rt_model.specs.Parts.{OwnerPart, TaskPart, ThreadPart}
 use Rattle.rt_model.specs.State.{State, shared, owner_part, task_part, thread_part}
-use Rattle.rt_model.specs.Choice.{called_lock}
 use Rattle.rt_model.specs.Effect.{Around, around}
 use Rattle.rt_model.specs.Rules.{touched, effect}
 use Rattle.rt_model.specs.StateAfter.{thread_after, state_after}
@@ -26,7 +24,6 @@ use Rattle.rt_model.specs.laws.Lawful.{IsLawful}
 use Rattle.rt_model.specs.laws.Owners.{owned_by}
 use Rattle.rt_model.specs.laws.Queued.{QueuedLaw, present_lock, awaited_in, asked_in}
 use Rattle.rt_model.proofs.Blocked.{moves, changes_own, blocking-other, blocking-kept, blocked-kept, take-blocked, wait-blocked}
-use Rattle.rt_model.proofs.Calling.{IsIn}
 use Rattle.rt_model.proofs.Links.{walked_thread, requeued-owner, link-thread, end-thread, setprio-thread}
 use Rattle.rt_model.proofs.Lists.{if_some}
 use Rattle.rt_model.proofs.NextEvents.{IsNext, by_own, by_acquire, by_wait, by_release, by_walk, by_setprio, task-IsNext}
@@ -37,7 +34,7 @@ use Rattle.rt_model.proofs.events.Release.{is_free, is_give}
 use Rattle.rt_model.proofs.events.Walk.{is_walk, is_walkend}
 use Rattle.rt_model.proofs.Numbers.{at_each_task}
 use Rattle.rt_model.proofs.PartsAfter.{lock-kept, thread-own, thread-other}
-use Rattle.rt_model.proofs.Routes.{SameSort, SameSort-itself, SameSort-followed, walked-holds}
+use Rattle.rt_model.proofs.Routes.{call-lock, SameSort, SameSort-itself, SameSort-followed, walked-holds}
 use Rattle.rt_model.proofs.Waiters.{blocking, start-blocked, slow-unowned, walk-phase}
 
 -- ---- the law at one task
@@ -122,9 +119,6 @@ wait_wants thread t l None blocked on = record { waits = on; asks = refl }
 start_wants : (thread : ThreadPart) → thread.phase ≡ phases.Start → Wants None None thread
 start_wants thread start = record { waits = ap (λ (p : Phase). awaited_in p (present_lock thread)) start; asks = ap (λ (p : Phase). asked_in p (present_lock thread)) start }
 
-present : (s : State) (t : TaskId) (phase : Phase) (l : LockId) → IsIn s t phase (calls.Lock l) → present_lock (thread_part s t) ≡ Some l
-present s t phase l at = ap (λ (call : Option Call). option_and_then (called_lock (thread_part s t).cpu) call) at.calling
-
 acquires-blocked : (s : State) (made : ℕ) (t : TaskId) (l : LockId) → IsLawful s made → AcquiresIn s t l → (task_part s t).blocked ≡ None
 acquires-blocked s made t l lawful (by_lock at unheld) = start-blocked s made t lawful (calls.Lock l) at
 acquires-blocked s made t l lawful (by_trylock at) = start-blocked s made t lawful (calls.TryLock l) at
@@ -166,10 +160,10 @@ queued_own s made t e lawful (by_release l (is_free is)) = answers_at_once s mad
 queued_own s made t e lawful (by_release l (is_give is)) = answers_at_once s made e _ lawful is.event is.at.task refl refl (start-blocked s made t lawful (calls.Unlock l) is.at)
 queued_own s made t e lawful (by_acquire l (is_take is)) = answers s made e _ lawful is.event is.task refl (take-blocked s t e l lawful.shape is)
 queued_own s made t e lawful (by_acquire l (is_mark is)) =
-    own s made e _ lawful is.event is.at.task None (Some l) (record { waits = refl; asks = present s t phases.Start l is.at })
+    own s made e _ lawful is.event is.at.task None (Some l) (record { waits = refl; asks = call-lock s t phases.Start l is.at })
     (ap blocking (blocked-kept s e _ t is.event refl ∙ start-blocked s made t lawful (calls.Lock l) is.at)) tt (unowned s made e _ lawful is.event is.at.task refl l (sym (lawful.owners l t) ∙ is.unheld))
 queued_own s made t e lawful (by_wait l (is_wait is)) =
-    own s made e _ lawful is.event is.at.task (Some l) None (wait_wants (thread_part s t) t l (owner_part s l).owner _ (present s t phases.Slow l is.at)) (ap blocking (wait-blocked s t e l lawful.shape is))
+    own s made e _ lawful is.event is.at.task (Some l) None (wait_wants (thread_part s t) t l (owner_part s l).owner _ (call-lock s t phases.Slow l is.at)) (ap blocking (wait-blocked s t e l lawful.shape is))
     (unowned s made e _ lawful is.event is.at.task refl l (slow-unowned s made t lawful l is.at)) tt
 queued_own s made t e lawful (by_wait l (is_again is)) =
     stays_as s (state_after s e) t (thread-own s e _ is.event is.at.task) (blocking-kept s e _ t is.event refl) (unowned s made e _ lawful is.event is.at.task refl) lawful.queued

@@ -7,6 +7,7 @@ pub mod SharedSteps
 pub mod Holds
 pub mod Starting
 pub mod Leaving
+pub mod Choosing
 pub mod Applying
 pub mod EntryWellFormed
 pub mod Notes

@@ -15,6 +15,7 @@ use Rattle.rt_model.specs.Stage.{IsPhaseOf}
 use Rattle.rt_model.specs.laws.Lawful.{IsLawful}
 use Rattle.rt_model.proofs.Waiters.{WaitsFor-blocked}
 use Rattle.rt_model.proofs.laws.Shape.{IsOf-threads}
+use Rattle.rt_core.proofs.Choosing.{cursor-within}
 use Rattle.rt_core.specs.declared.note.Note.{Note}
 use Rattle.rt_core.specs.declared.note.Note.TheVariants as notes
 use Rattle.rt_core.specs.Report.{blocked_note, phase_note, call_note, note_of, IsNoteWithin}
@@ -27,16 +28,17 @@ blocked_within s made t (Some at) lawful is = (WaitsFor-blocked s t at lawful.st
 ready_or : (s : State) (t : TaskId) (waiting : Note) → IsNoteWithin (length s.threads) (length s.locks) waiting → IsNoteWithin (length s.threads) (length s.locks) (cond (is_enabled s t.0) notes.Ready waiting)
 ready_or s t waiting within = cond_both (is_enabled s t.0) notes.Ready waiting (IsNoteWithin (length s.threads) (length s.locks)) (λ _. tt) (λ _. within)
 
-phase_within : (s : State) (made : ℕ) (t : TaskId) (call : Call) (phase : Phase) → IsLawful s made → IsPhaseOf phase (Some call) → IsNoteWithin (length s.threads) (length s.locks) (phase_note phase s t call)
-phase_within s made t call phases.Start lawful fits = ready_or s t notes.Wake tt
-phase_within s made t call phases.Slow lawful fits = ready_or s t notes.Wake tt
-phase_within s made t call phases.Wait lawful fits = ready_or s t (blocked_note (task_part s t).blocked) (blocked_within s made t (task_part s t).blocked lawful refl)
-phase_within s made t call _ lawful fits = absurd fits
+phase_within : (s : State) (made : ℕ) (t : TaskId) (call : Call) (phase : Phase) → (thread_part s t).phase ≡ phase → IsLawful s made → IsPhaseOf phase (Some call) → IsNoteWithin (length s.threads) (length s.locks) (phase_note phase s t call)
+phase_within s made t call phases.Start at lawful fits = ready_or s t notes.Wake tt
+phase_within s made t call phases.Slow at lawful fits = ready_or s t notes.Wake tt
+phase_within s made t call phases.Wait at lawful fits = ready_or s t (blocked_note (task_part s t).blocked) (blocked_within s made t (task_part s t).blocked lawful refl)
+phase_within s made t call (phases.Walk cursor route) at lawful fits = cursor-within s made t lawful cursor route at
+phase_within s made t call _ at lawful fits = absurd fits
 
 call_within : (s : State) (made : ℕ) (t : TaskId) (call : Option Call) → IsLawful s made → call_of (thread_part s t) ≡ call → IsNoteWithin (length s.threads) (length s.locks) (call_note s t call)
 call_within s made t None lawful at = tt
 call_within s made t (Some call) lawful at =
-    phase_within s made t call (thread_part s t).phase lawful (subst (λ (c : Option Call). IsPhaseOf (thread_part s t).phase c) at (lawful.phases t))
+    phase_within s made t call (thread_part s t).phase refl lawful (subst (λ (c : Option Call). IsPhaseOf (thread_part s t).phase c) at (lawful.phases t))
 
 pub note_within : (s : State) (made : ℕ) (t : TaskId) → IsLawful s made → IsNoteWithin (length s.threads) (length s.locks) (note_of s t)
 note_within s made t lawful = call_within s made t (call_of (thread_part s t)) lawful refl

@@ -22,7 +22,7 @@ own_task s t (Some e) is = task-next_event s t e (sym is)
 
 names_within : (s : State) (made : ℕ) (t : TaskId) (e : Option Event) → IsLawful s made → e ≡ next_event s t → IfSome e (IsWithin (length s.threads) (length s.locks))
 names_within s made t None lawful is = tt
-names_within s made t (Some e) lawful is = within s t e lawful.shape (choice s t e lawful.stage lawful.phases (sym is))
+names_within s made t (Some e) lawful is = within s made t e lawful (choice s t e lawful.stage lawful.phases (sym is))
 
 stays_next : (s : State) (t : TaskId) (e : Option Event) → e ≡ next_event s t → IfSome e (λ e. (other : State) → AgreeOn e s other → next_event other t ≡ Some e)
 stays_next s t None is = tt
@@ -31,7 +31,13 @@ stays_next s t (Some e) is = λ other agree. local s other t e (sym is) agree
 tells : (s : State) (made : ℕ) (t : TaskId) (e : Option Event) → IsLawful s made → e ≡ next_event s t → IfSome e (λ (e : Event). IfSome e.boost (λ b. b.1 ≤ 139))
     → IfSome e (λ e. (script : Script) (number : ℕ) → IsOf script s → number < 2 ^ 64 → IsWellFormed script (entry number e))
 tells s made t None lawful is prio = tt
-tells s made t (Some e) lawful is prio = λ script number of few. well_formed script number s t e of few lawful.shape (choice s t e lawful.stage lawful.phases (sym is)) prio
+tells s made t (Some e) lawful is prio = λ script number of few. well_formed script number s made t e of few lawful (choice s t e lawful.stage lawful.phases (sym is)) prio
+
+pub next_of-requires-clause-served : goal.next_of-requires-clause-served
+next_of-requires-clause-served c = ?
+
+pub next_of-requires-clause-cursor : goal.next_of-requires-clause-cursor
+next_of-requires-clause-cursor c = ?
 
 -- the event that was chosen
 event : (c : After-boost_within) → c.event_of-event.result ≡ next_event c.args.self.now.state c.args.t

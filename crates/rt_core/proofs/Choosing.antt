@@ -1,0 +1,50 @@
+-- What the choice of an event finds in a lawful state.
+use Rattle.std.proofs.Common.{◌≡◌, ℕ, ◌<◌, length, refl, sym, subst, Option, Some, None, IfSome}
+use Rattle.rt_base.specs.declared.call.Call.{Call}
+use Rattle.rt_base.specs.declared.id.LockId.{LockId}
+use Rattle.rt_base.specs.declared.id.TaskId.{TaskId}
+use Rattle.rt_model.specs.declared.phase.Phase.{Phase}
+use Rattle.rt_model.specs.declared.phase.Phase.TheVariants as phases
+use Rattle.rt_model.specs.declared.phase.Route.{Route}
+use Rattle.rt_model.specs.declared.phase.Route.TheVariants.{Full, Short}
+use Rattle.rt_model.specs.Parts.{call_of}
+use Rattle.rt_model.specs.State.{State, shared, task_part, thread_part}
+use Rattle.rt_model.specs.Stage.{IsServed}
+use Rattle.rt_model.specs.laws.Lawful.{IsLawful}
+use Rattle.rt_model.specs.laws.Queued.{present_lock}
+use Rattle.rt_model.specs.laws.Walks.{IsWalkOf}
+use Rattle.rt_model.proofs.Calling.{served_call}
+use Rattle.rt_model.proofs.Waiters.{WaitsFor-blocked}
+use Rattle.rt_core.specs.Walking.{IsOnChain, FindsCursor}
+
+module _ (s : State) (made : ℕ) (t : TaskId) (lawful : IsLawful s made) where
+  -- the call is served
+  pub served-here : IfSome (call_of (thread_part s t)) (IsServed (length s.tasks) (length s.locks))
+  served-here = subst (λ (n : ℕ). IfSome (call_of (thread_part s t)) (IsServed n (length s.locks))) (sym lawful.shape.tasks) (by_call (call_of (thread_part s t)) refl)
+    where
+      by_call : (call : Option Call) → call_of (thread_part s t) ≡ call → IfSome call (IsServed (length s.threads) (length s.locks))
+      by_call None is = tt
+      by_call (Some call) is = served_call s t call lawful.stage is
+
+  -- a walk's cursor is there
+  pub cursor-within : (u : TaskId) (route : Route) → (thread_part s t).phase ≡ phases.Walk u route → u.0 < length s.threads
+  cursor-within u route is = of_route route (subst (IsWalkOf (length s.threads) t (present_lock (thread_part s t))) is (lawful.walks t))
+    where
+      of_route : (r : Route) → IsWalkOf (length s.threads) t (present_lock (thread_part s t)) (phases.Walk u r) → u.0 < length s.threads
+      of_route (Full path) of = of.0
+      of_route (Short answer) of = of
+
+  -- and so is the lock on which it is blocked
+  pub cursor-here : FindsCursor (shared s) (thread_part s t).phase
+  cursor-here = by_phase (thread_part s t).phase refl
+    where
+      blocked_there : (u : TaskId) (blocked : Option (LockId × ℕ)) → (task_part s u).blocked ≡ blocked → IfSome blocked (λ at. at.0.0 < length s.locks)
+      blocked_there u None is = tt
+      blocked_there u (Some at) is = (WaitsFor-blocked s u at lawful.stage lawful.phases lawful.queued is).lock
+
+      by_phase : (phase : Phase) → (thread_part s t).phase ≡ phase → FindsCursor (shared s) phase
+      by_phase (phases.Walk u route) is = record {
+        task = subst (λ (n : ℕ). u.0 < n) (sym lawful.shape.tasks) (cursor-within u route is);
+        lock = blocked_there u (task_part s u).blocked refl;
+      }
+      by_phase _ is = tt

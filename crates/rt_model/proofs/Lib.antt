@@ -21,12 +21,11 @@ pub mod Uninvolved
 pub mod Within
 pub mod Waiters
 pub mod Named
--- what a link of a walk leaves, a walk's end, and a setprio, how a walk goes on, and which events change an owner
+-- what a link of a walk leaves, a walk's end, and a setprio; how a walk goes on, its path, and which events change an owner
 pub mod Links
 pub mod Routes
-pub mod Owned
--- the path of a full walk
 pub mod Paths
+pub mod Owned
 -- the laws, one a file, and that a next event keeps all of them
 pub mod laws
 pub mod Lawful

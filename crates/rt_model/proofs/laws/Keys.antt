@@ -1,21 +1,27 @@
 -- A next event keeps the keys law.
-use Rattle.std.proofs.Common.{◌≡◌, inl, inr, ℕ, Bool, true, false, refl, sym, ap, ◌∙◌, subst, Option, Some, None, IfSome}
-use Rattle.std.specs.Prelude.{nat_eq}
+use Rattle.std.proofs.Common.{◌≡◌, inl, inr, ℕ, Bool, true, false, cond, [], ◌∷◌, refl, sym, ap, ◌∙◌, subst, Option, Some, None, IfSome}
+use Rattle.std.specs.Prelude.{nat_eq, is_some, option_map}
+use Rattle.std.proofs.lemmas.Bool.{cond_both}
 use Rattle.rt_base.specs.Kind.{spins}
 use Rattle.rt_base.specs.declared.call.Call.{Call}
 use Rattle.rt_base.specs.declared.call.Call.TheVariants as calls
 use Rattle.rt_base.specs.declared.id.LockId.{LockId}
 use Rattle.rt_base.specs.declared.id.TaskId.{TaskId}
 use Rattle.rt_base.specs.declared.kind.Kind.{Kind}
+use Rattle.rt_base.specs.declared.reply.Reply.TheVariants.{Done}
 use Rattle.rt_model.specs.declared.event.Event.{Event}
 use Rattle.rt_model.specs.declared.event_kind.EventKind.{EventKind}
 use Rattle.rt_model.specs.declared.event_kind.EventKind.TheVariants as kinds
 use Rattle.rt_model.specs.declared.phase.Phase.{Phase}
 use Rattle.rt_model.specs.declared.phase.Phase.TheVariants as phases
+use Rattle.rt_model.specs.declared.phase.Route.{Route}
+use Rattle.rt_model.specs.declared.phase.Route.TheVariants.{Full, Short}
 use Rattle.rt_model.specs.Parts.{OwnerPart, TaskPart, ThreadPart, call_of, effective_of, kind_of, kind_named}
 use Rattle.rt_model.specs.Rows.{top_key}
-use Rattle.rt_model.specs.State.{State, owner_part, task_part, thread_part}
-use Rattle.rt_model.specs.steps.Task.{with_top, rest_of, blocked_on, leave_queue}
+use Rattle.rt_model.specs.State.{State, shared, task_at, owner_part, task_part, thread_part}
+use Rattle.rt_model.specs.events.Wait.{phase_after_wait}
+use Rattle.rt_model.specs.steps.Chain.{has_old_key, rekeyed, followed, is_on_path, goes_on_to, route_to, goes_on, phase_of_walk}
+use Rattle.rt_model.specs.steps.Task.{with_top, with_own, rest_of, blocked_on, leave_queue, lock_woken}
 use Rattle.rt_model.specs.Effect.{Around}
 use Rattle.rt_model.specs.Rules.{effect}
 use Rattle.rt_model.specs.StateAfter.{state_after}
@@ -23,31 +29,34 @@ use Rattle.rt_model.specs.Stage.{IsPhaseOf}
 use Rattle.rt_model.specs.laws.Keys.{StandsAt, IsToConfirm, IsNamed, KeysLaw}
 use Rattle.rt_model.specs.laws.Lawful.{IsLawful}
 use Rattle.rt_model.specs.laws.Owners.{owned_by}
+use Rattle.rt_model.specs.laws.Phases.{PhasesLaw}
 use Rattle.rt_model.proofs.Blocked.{blocked-other}
-use Rattle.rt_model.proofs.CellStepLemmas.{IsWoken, effective-like, leave_queue-blocked, with_top-blocked, lock_woken-like, blocked_on-like}
-use Rattle.rt_model.proofs.Lists.{if_some}
-use Rattle.rt_model.proofs.NextEvents.{IsNext, by_own, by_acquire, by_wait, by_release}
-use Rattle.rt_model.proofs.events.Acquire.{is_fast, is_mark, is_take}
+use Rattle.rt_model.proofs.CellStepLemmas.{IsWoken, effective-like, leave_queue-blocked, with_top-blocked, lock_woken-like, blocked_on-like, right_key}
+use Rattle.rt_model.proofs.Links.{walked_thread, link_owner, link_woken, link-task, link-thread, end-task, setprio-task, setprio-thread}
+use Rattle.rt_model.proofs.Lists.{if_some, if_found}
+use Rattle.rt_model.proofs.NextEvents.{IsNext, by_own, by_acquire, by_wait, by_release, by_walk, by_setprio}
+use Rattle.rt_model.proofs.events.Acquire.{AcquiresIn, by_lock, by_trylock, TakesIn, from_slow, from_wait, from_trylock, is_fast, is_mark, is_take, is_busy}
 use Rattle.rt_model.proofs.events.Wait.{IsWait, is_wait, is_again}
 use Rattle.rt_model.proofs.events.Release.{IsGive, is_free, is_give}
-use Rattle.rt_model.proofs.Numbers.{at_each_task}
-use Rattle.rt_model.proofs.PartsAfter.{OthersKeep, task-keeps, own-made, owner-made}
-use Rattle.rt_model.proofs.Waiters.{start-blocked, slow-unowned, owner-unblocked}
+use Rattle.rt_model.proofs.events.Walk.{WalksIn, IsWalk, IsWalkEnd, is_walk, is_walkend}
+use Rattle.rt_model.proofs.events.Wakeups.{IsSetPrio}
+use Rattle.rt_model.proofs.Numbers.{at_each_task, same_task, other_number}
+use Rattle.rt_model.proofs.PartsAfter.{OthersKeep, task-keeps, own-made, owner-made, thread-own, thread-other}
+use Rattle.rt_model.proofs.Routes.{walked-phase}
+use Rattle.rt_model.proofs.Waiters.{start-blocked, slow-unowned, walk-phase}
 use Rattle.rt_model.proofs.Within.{task_room, owner_room}
 
--- ---- no walk names a task
-
-no_walk : (t : TaskId) (phase : Phase) (call : Option Call) → IsPhaseOf phase call → StandsAt t phase → ⊥
-no_walk t (phases.Walk cursor route) call fits stands = fits
-no_walk t _ call fits stands = stands
+-- ---- who is named
 
 no_confirm : (phase : Phase) (call : Option Call) → IsPhaseOf phase call → IsToConfirm phase → ⊥
 no_confirm (phases.Confirm path) call fits confirms = fits
 no_confirm _ call fits confirms = confirms
 
-unnamed : (s : State) (made : ℕ) (t : TaskId) → IsLawful s made → IsNamed s t → ⊥
-unnamed s made t lawful (inl at) = no_walk t (thread_part s at.0).phase (call_of (thread_part s at.0)) (lawful.phases at.0) at.1
-unnamed s made t lawful (inr confirms) = no_confirm (thread_part s t).phase (call_of (thread_part s t)) (lawful.phases t) confirms
+-- a walk that isn't the event's own task's names whom it named
+still_named : (s : State) (e : Event) (u : TaskId) → PhasesLaw s → (StandsAt u (thread_part s e.task).phase → ⊥) → (IsNamed (state_after s e) u → ⊥) → IsNamed s u → ⊥
+still_named s e u law elsewhere unnamed (inr confirms) = no_confirm (thread_part s u).phase (call_of (thread_part s u)) (law u) confirms
+still_named s e u law elsewhere unnamed (inl (w, stands)) =
+    at_each_task (λ v. StandsAt u (thread_part s v).phase → ⊥) e.task w elsewhere (λ other here. unnamed (inl (w, subst (λ (th : ThreadPart). StandsAt u th.phase) (sym (thread-other s e w other)) here))) stands
 
 -- ---- a task
 
@@ -67,10 +76,45 @@ blocked-key : (l : Option LockId) (kind : Kind) (call : Option Call) (task : Tas
 blocked-key None kind call task = tt
 blocked-key (Some l) kind call task = sym (effective-like (blocked_on-like (Some l) (rest_of kind call) task))
 
--- an event of this kind keeps every key right; a wait and a give do so in a lawful state
+-- a task with its effective priority as its key
+rekeyed-key : (task : TaskPart) → HasKey (rekeyed task)
+rekeyed-key task = by_blocked task.blocked
+  where
+    by_blocked : (blocked : Option (LockId × ℕ)) → IfSome {T = LockId × ℕ} (option_map (λ (at : LockId × ℕ). (at.0, effective_of task)) blocked) (λ at. at.1 ≡ effective_of task)
+    by_blocked None = tt
+    by_blocked (Some at) = refl
+
+-- one whose key isn't old, and so one to which a walk doesn't go on
+right-key : (task : TaskPart) → has_old_key task ≡ false → HasKey task
+right-key task right = if_found task.blocked (λ at. at.1 ≡ effective_of task) (λ at some. right_key task at.0 at.1 some right)
+
+not_blocked : (blocked : Option (LockId × ℕ)) → is_some blocked ≡ false → blocked ≡ None
+not_blocked None is = refl
+not_blocked (Some at) is = cc
+
+passed-key : (route : Route) (t : TaskId) (task : TaskPart) → goes_on_to route t task ≡ false → HasKey task
+passed-key (Short answer) t task passed = right-key task passed
+passed-key (Full path) t task passed =
+    cond_both (is_on_path t path) (has_old_key task) (is_some task.blocked) (λ (b : Bool). b ≡ false → HasKey task) (λ is right. right-key task right)
+    (λ is none. unblocked-key task (not_blocked task.blocked none)) passed
+
+-- a task to which a walk was to go on, where none names it
+goes-key : (s : State) (t u : TaskId) (thread : ThreadPart) (route onward : Route) (task : TaskPart) → thread_part s t ≡ walked_thread thread route (goes_on onward (Some u) task) → (IsNamed s u → ⊥) → HasKey task
+goes-key s t u thread route onward task left unnamed = by_test (goes_on_to onward u task) refl
+  where
+    by_test : (b : Bool) → goes_on_to onward u task ≡ b → HasKey task
+    by_test false passed = passed-key onward u task passed
+    by_test true goes =
+        let phase : (thread_part s t).phase ≡ phases.Walk u (route_to u onward) =
+        ap (λ (th : ThreadPart). th.phase) left ∙ (walked-phase thread route (goes_on onward (Some u) task) ∙ ap (λ (b : Bool). phase_of_walk route (cond b (Some (phases.Walk u (route_to u onward))) None)) goes) in
+        absurd (unnamed (inl (t, subst (StandsAt u) (sym phase) refl)))
+
+-- an event of this kind keeps every key right
 abbrev keeps_keys : EventKind → Bool
 keeps_keys kinds.Wait = false
 keeps_keys kinds.Give = false
+keeps_keys kinds.Walk = false
+keeps_keys kinds.SetPrio = false
 keeps_keys _ = true
 
 key-own : (kind : EventKind) (e : Event) (th : ThreadPart) → keeps_keys kind ≡ true → (found : Around) (lock : OwnerPart) (task : TaskPart) → HasKey task → HasKey ((effect kind e th found).own lock task)
@@ -84,33 +128,73 @@ key-own _ e th is found lock task was = was
 key-others : (kind : EventKind) (e : Event) (th : ThreadPart) → keeps_keys kind ≡ true → (found : Around) (lock : OwnerPart) → OthersKeep HasKey (effect kind e th found) lock
 key-others kinds.Wait e th is found lock = cc
 key-others kinds.Give e th is found lock = cc
+key-others kinds.Walk e th is found lock = cc
+key-others kinds.SetPrio e th is found lock = cc
 key-others _ e th is found lock = record { owner = λ task was. was; other = λ task was. was; woken = λ task was. was }
 
 -- ---- the law
 
-module _ (s : State) (made : ℕ) (t : TaskId) (e : Event) (u : TaskId) (lawful : IsLawful s made) where
-  key : HasKey (task_part s u)
-  key = lawful.keys u (unnamed s made u lawful)
+-- the task's walk doesn't stand at u in this phase
+at_phase : (s : State) (t u : TaskId) (phase : Phase) → (thread_part s t).phase ≡ phase → (StandsAt u phase → ⊥) → StandsAt u (thread_part s t).phase → ⊥
+at_phase s t u phase is never stands = never (subst (StandsAt u) is stands)
 
-  kept-key : (x : Event) → e ≡ x → keeps_keys x.kind ≡ true → HasKey (task_part (state_after s e) u)
-  kept-key x is keeps =
+at_walk : (s : State) (t u v : TaskId) (route : Route) → WalksIn s t route v → nat_eq v.0 u.0 ≡ false → StandsAt u (thread_part s t).phase → ⊥
+at_walk s t u v route how other = at_phase s t u (phases.Walk v route) (walk-phase s t route v how) (λ same. other_number v.0 u.0 other (ap (λ (w : TaskId). w.0) same))
+
+acquires_at : (s : State) (t u : TaskId) (l : LockId) → AcquiresIn s t l → StandsAt u (thread_part s t).phase → ⊥
+acquires_at s t u l (by_lock at unheld) = at_phase s t u phases.Start at.phased (λ never. never)
+acquires_at s t u l (by_trylock at) = at_phase s t u phases.Start at.phased (λ never. never)
+
+takes_at : (s : State) (t u : TaskId) (l : LockId) → TakesIn s t l → StandsAt u (thread_part s t).phase → ⊥
+takes_at s t u l (from_slow at) = at_phase s t u phases.Slow at.phased (λ never. never)
+takes_at s t u l (from_wait at running) = at_phase s t u phases.Wait at.phased (λ never. never)
+takes_at s t u l (from_trylock at) = at_phase s t u phases.Start at.phased (λ never. never)
+
+-- who owns a lock is its owner
+its_owner : (owner : Option TaskId) (u : TaskId) → owned_by owner u ≡ true → owner ≡ Some u
+its_owner None u is = cc
+its_owner (Some o) u is = ap Some (same_task o u is)
+
+module _ (s : State) (made : ℕ) (t : TaskId) (e : Event) (u : TaskId) (lawful : IsLawful s made) (unnamed : IsNamed (state_after s e) u → ⊥) where
+  -- where the task's walk didn't stand at u, no other did
+  key : e.task ≡ t → (StandsAt u (thread_part s t).phase → ⊥) → HasKey (task_part s u)
+  key own elsewhere = lawful.keys u (still_named s e u lawful.phases (λ stands. elsewhere (subst (λ (v : TaskId). StandsAt u (thread_part s v).phase) own stands)) unnamed)
+
+  -- an event that keeps keys
+  kept-key : (x : Event) → e ≡ x → x.task ≡ t → (StandsAt u (thread_part s t).phase → ⊥) → keeps_keys x.kind ≡ true → HasKey (task_part (state_after s e) u)
+  kept-key x is own elsewhere keeps =
       let kind : keeps_keys e.kind ≡ true = ap (λ (y : Event). keeps_keys y.kind) is ∙ keeps in
-      task-keeps HasKey s e u key (key-own e.kind e (thread_part s e.task) kind) (key-others e.kind e (thread_part s e.task) kind)
+      task-keeps HasKey s e u (key (ap (λ (y : Event). y.task) is ∙ own) elsewhere) (key-own e.kind e (thread_part s e.task) kind) (key-others e.kind e (thread_part s e.task) kind)
 
-  -- the waiter's key is its priority, and the owner, whose priority may change, isn't blocked
+  -- the waiter's key is its priority; a walk names the owner, whose priority may change, where that is blocked
   wait-key : (l : LockId) → IsWait s t l e → HasKey (task_part (state_after s e) u)
   wait-key l is = by_owner (owned_by (owner_part s l).owner u) refl
     where
       own : e.task ≡ t
       own = ap (λ (x : Event). x.task) is.event
 
+      -- where the walk stands that begins at a blocked owner
+      named : (at : LockId × ℕ) → owned_by (owner_part s l).owner u ≡ true → (task_part s u).blocked ≡ Some at → ⊥
+      named at owns some =
+          let phase : (thread_part (state_after s e) t).phase ≡ phases.Walk u (Full ((t.0, l.0) ∷ [])) =
+          ap (λ (th : ThreadPart). th.phase) (thread-own s e _ is.event is.at.task)
+          ∙ (ap (λ (o : Option TaskId). phase_after_wait t (Some l) o (is_some (task_at (shared s) o).blocked)) (its_owner (owner_part s l).owner u owns)
+          ∙ ap (λ (b : Option (LockId × ℕ)). phase_after_wait t (Some l) (Some u) (is_some b)) some) in
+          unnamed (inl (t, subst (StandsAt u) (sym phase) refl))
+
+      not_blocked_owner : owned_by (owner_part s l).owner u ≡ true → (task_part s u).blocked ≡ None
+      not_blocked_owner owns = by_blocked (task_part s u).blocked refl
+        where
+          by_blocked : (b : Option (LockId × ℕ)) → (task_part s u).blocked ≡ b → b ≡ None
+          by_blocked None none = refl
+          by_blocked (Some at) some = absurd (named at owns some)
+
       by_owner : (b : Bool) → owned_by (owner_part s l).owner u ≡ b → HasKey (task_part (state_after s e) u)
       by_owner true owns =
-          at_each_task (λ v. owned_by (owner_part s l).owner v ≡ true → HasKey (task_part (state_after s e) v)) t u
-          (λ its. let not_its = slow-unowned s made t lawful l is.at in absurd cc)
-          (λ others its. unblocked-key (task_part (state_after s e) u) (blocked-other s e u (ap (λ (v : TaskId). nat_eq v.0 u.0) own ∙ others) ∙ owner-unblocked s made u l lawful is.at.served its)) owns
+          let other : nat_eq t.0 u.0 ≡ false = at_each_task (λ v. owned_by (owner_part s l).owner v ≡ true → nat_eq t.0 v.0 ≡ false) t u (λ its. let not_its = slow-unowned s made t lawful l is.at in absurd cc) (λ others its. others) owns in
+          unblocked-key (task_part (state_after s e) u) (blocked-other s e _ u is.event refl (ap (λ (v : TaskId). nat_eq v.0 u.0) own ∙ other) ∙ not_blocked_owner owns)
       by_owner false not_its =
-          owner-made HasKey HasKey s e _ u is.event (owner_room s l lawful.shape is.at.served) key
+          owner-made HasKey HasKey s e _ u is.event (owner_room s l lawful.shape is.at.served) (key own (at_phase s t u phases.Slow is.at.phased (λ never. never)))
           (λ task was. blocked-key (Some l) (kind_of (thread_part s t) l) (call_of (thread_part s t)) task) (λ task was owns. absurd cc) (λ task was others. was) (λ task was. was) (λ task was. was)
 
   -- who gives a lock up isn't blocked
@@ -118,17 +202,77 @@ module _ (s : State) (made : ℕ) (t : TaskId) (e : Event) (u : TaskId) (lawful 
   give-key l is =
       own-made (λ v. HasKey) s e _ t u is.event refl (task_room s t lawful.shape is.at.task)
       (record { owner = λ task was. was; other = λ task was. was; woken = λ task was. woken-key (lock_woken-like (spins (kind_of (thread_part s t) l)) task) was })
-      (unblocked-key (with_top (Some l) None (task_part s t)) (start-blocked s made t lawful (calls.Unlock l) is.at)) (λ others. key)
+      (unblocked-key (with_top (Some l) None (task_part s t)) (start-blocked s made t lawful (calls.Unlock l) is.at))
+      (λ others. key (ap (λ (x : Event). x.task) is.event) (at_phase s t u phases.Start is.at.phased (λ never. never)))
+
+  -- a link queues its cursor with its priority, and goes on to the owner, whose priority may change, where its key is old
+  link-key : (route : Route) (v : TaskId) (l : LockId) (old : ℕ) → IsWalk s t route v l old e → HasKey (task_part (state_after s e) u)
+  link-key route v l old is =
+      subst HasKey (sym (link-task s made t route v l old e lawful is u))
+      (cond_both (owned_by (link_woken s made t route v l old e lawful is) u) (lock_woken spinning cursor) cursor HasKey (λ its. woken-key (lock_woken-like spinning cursor) cursor-key) (λ its. cursor-key))
+    where
+      spinning : Bool
+      spinning = spins (kind_of (thread_part s t) l)
+
+      refreshed_owner : TaskPart → TaskPart
+      refreshed_owner task = link_owner s made t route v l old e lawful is task
+
+      owner : TaskPart
+      owner = cond (owned_by (owner_part s l).owner u) (refreshed_owner (task_part s u)) (task_part s u)
+
+      cursor : TaskPart
+      cursor = cond (nat_eq v.0 u.0) (rekeyed owner) owner
+
+      left : owned_by (owner_part s l).owner u ≡ true → thread_part (state_after s e) t ≡ walked_thread (thread_part s t) route (goes_on (followed v l route) (Some u) (refreshed_owner (task_part s u)))
+      left owns =
+          thread-own s e _ is.event is.task ∙ (link-thread s made t route v l old e lawful is
+          ∙ ap (λ (o : Option TaskId). walked_thread (thread_part s t) route (goes_on (followed v l route) o (refreshed_owner (task_at (shared s) o)))) (its_owner (owner_part s l).owner u owns))
+
+      owner-key : nat_eq v.0 u.0 ≡ false → HasKey owner
+      owner-key other =
+          cond_both (owned_by (owner_part s l).owner u) (refreshed_owner (task_part s u)) (task_part s u) HasKey
+          (λ owns. goes-key (state_after s e) t u (thread_part s t) route (followed v l route) (refreshed_owner (task_part s u)) (left owns) unnamed)
+          (λ not_its. key (ap (λ (x : Event). x.task) is.event) (at_walk s t u v route is.how other))
+
+      cursor-key : HasKey cursor
+      cursor-key = cond_both (nat_eq v.0 u.0) (rekeyed owner) owner HasKey (λ same. rekeyed-key owner) owner-key
+
+  -- a walk that ends at its cursor isn't blocked there
+  end-key : (route : Route) (v : TaskId) → IsWalkEnd s t route v e → HasKey (task_part (state_after s e) u)
+  end-key route v is =
+      subst HasKey (sym (end-task s t route v e is u))
+      (by_cursor (nat_eq v.0 u.0) refl)
+    where
+      by_cursor : (b : Bool) → nat_eq v.0 u.0 ≡ b → HasKey (task_part s u)
+      by_cursor true same = unblocked-key (task_part s u) (ap (λ (w : TaskId). (task_part s w).blocked) (sym (same_task v u same)) ∙ is.blocked)
+      by_cursor false other = key (ap (λ (x : Event). x.task) is.event) (at_walk s t u v route is.how other)
+
+  -- a target whose key isn't right then is where a walk begins
+  set-key : (v : TaskId) (prio : ℕ) → IsSetPrio s t v prio e → HasKey (task_part (state_after s e) u)
+  set-key v prio is =
+      subst HasKey (sym (setprio-task s made t v prio e lawful is u))
+      (cond_both (nat_eq v.0 u.0) (with_own prio (task_part s u)) (task_part s u) HasKey
+      (λ same. goes-key (state_after s e) t u (thread_part s t) (Short Done) (Short Done) (with_own prio (task_part s u)) (left (same_task v u same)) unnamed)
+      (λ other. key (ap (λ (x : Event). x.task) is.event) (at_phase s t u phases.Start is.at.phased (λ never. never))))
+    where
+      left : v ≡ u → thread_part (state_after s e) t ≡ walked_thread (thread_part s t) (Short Done) (goes_on (Short Done) (Some u) (with_own prio (task_part s u)))
+      left same =
+          thread-own s e _ is.event is.at.task ∙ (setprio-thread s made t v prio e lawful is
+          ∙ ap (λ (w : TaskId). walked_thread (thread_part s t) (Short Done) (goes_on (Short Done) (Some w) (with_own prio (task_part s w)))) same)
 
 pub KeysLaw-next : (s : State) (made : ℕ) (t : TaskId) (e : Event) → IsLawful s made → IsNext s t e → KeysLaw (state_after s e)
-KeysLaw-next s made t e lawful next u named = by_kind next
+KeysLaw-next s made t e lawful next u unnamed = by_kind next
   where
     by_kind : IsNext s t e → HasKey (task_part (state_after s e) u)
-    by_kind (by_own call answer is) = kept-key s made t e u lawful _ is.event refl
-    by_kind (by_acquire l (is_fast is)) = kept-key s made t e u lawful _ is.event refl
-    by_kind (by_acquire l (is_mark is)) = kept-key s made t e u lawful _ is.event refl
-    by_kind (by_acquire l (is_take is)) = kept-key s made t e u lawful _ is.event refl
-    by_kind (by_wait l (is_wait is)) = wait-key s made t e u lawful l is
-    by_kind (by_wait l (is_again is)) = kept-key s made t e u lawful _ is.event refl
-    by_kind (by_release l (is_free is)) = kept-key s made t e u lawful _ is.event refl
-    by_kind (by_release l (is_give is)) = give-key s made t e u lawful l is
+    by_kind (by_own call answer is) = kept-key s made t e u lawful unnamed _ is.event refl (at_phase s t u phases.Start is.at.phased (λ never. never)) refl
+    by_kind (by_acquire l (is_fast is)) = kept-key s made t e u lawful unnamed _ is.event refl (acquires_at s t u l is.how) refl
+    by_kind (by_acquire l (is_mark is)) = kept-key s made t e u lawful unnamed _ is.event refl (at_phase s t u phases.Start is.at.phased (λ never. never)) refl
+    by_kind (by_acquire l (is_take is)) = kept-key s made t e u lawful unnamed _ is.event refl (takes_at s t u l is.how) refl
+    by_kind (by_acquire l (is_busy is)) = kept-key s made t e u lawful unnamed _ is.event refl (at_phase s t u phases.Start is.at.phased (λ never. never)) refl
+    by_kind (by_wait l (is_wait is)) = wait-key s made t e u lawful unnamed l is
+    by_kind (by_wait l (is_again is)) = kept-key s made t e u lawful unnamed _ is.event refl (at_phase s t u phases.Wait is.at.phased (λ never. never)) refl
+    by_kind (by_release l (is_free is)) = kept-key s made t e u lawful unnamed _ is.event refl (at_phase s t u phases.Start is.at.phased (λ never. never)) refl
+    by_kind (by_release l (is_give is)) = give-key s made t e u lawful unnamed l is
+    by_kind (by_walk route v (is_walk l old is)) = link-key s made t e u lawful unnamed route v l old is
+    by_kind (by_walk route v (is_walkend is)) = end-key s made t e u lawful unnamed route v is
+    by_kind (by_setprio v prio is) = set-key s made t e u lawful unnamed v prio is

@@ -9,3 +9,4 @@ mod top;
 
 pub use lock_cell::LockCell;
 pub use rt_model::Reason;
+pub use top::{key_in, task_of_row};

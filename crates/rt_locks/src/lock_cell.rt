@@ -1,4 +1,4 @@
-ghost use Rattle.std.specs.Prelude.{◌≡◌, ◌<◌, ◌^◌, true, None, Some, IfOk, IsSome};
+ghost use Rattle.std.specs.Prelude.{◌≡◌, ◌<◌, ◌≤◌, ◌^◌, true, None, Some, IfOk, IfSome, IsSome};
 ghost use Rattle.rt_model.specs.State.{free_lock};
 ghost use Rattle.rt_model.specs.Rows.{top_waiter, top_key, top_task, row_of, queued_key, without, may_take};
 ghost use Rattle.rt_model.specs.steps.Lock.{queued, requeued, left_by, taken_by, given_up};
@@ -6,7 +6,8 @@ ghost use Rattle.rt_locks.specs.OwnerCell.{HasPriorities};
 ghost use Rattle.rt_locks.specs.Top.{is_top, top_changed};
 
 use crate::reason::reason_among;
-use crate::top::{first_other, is_changed, is_first, key_in, task_of_row};
+use crate::top::{first_other, is_changed, is_first, key_in, task_of_row, top_with};
+use rt_base::limits::MAX_PRIO;
 use rt_base::{Kind, NoMemory, Prio, TaskId};
 use rt_model::{Reason, Row};
 use rt_waiters::{Steps, Waiters};
@@ -64,7 +65,8 @@ impl LockCell {
 
     /// The waiter that gets the lock first, `rt_mutex_top_waiter`.
     pub fn top(&self) -> Option<Row>
-        ensures { result ≡ top_waiter self.now.part.rows }
+        ensures top { result ≡ top_waiter self.now.part.rows }
+        ensures priority { IfSome result (λ row. row.key ≤ MAX_PRIO) }
     {
         self.waiters.top()
     }
@@ -135,6 +137,20 @@ impl LockCell {
             Some(top) => key.min(top),
             None => key,
         }
+    }
+
+    /// The top waiter once this task is queued anew with this priority and the next ticket, after the
+    /// others of that priority.
+    pub fn top_requeued(&self, t: TaskId, key: Prio) -> Option<Row>
+        ensures top { result ≡ top_waiter (requeued t key self.now.part).rows }
+        ensures priority { IfSome result (λ row. row.key ≤ MAX_PRIO) }
+    {
+        let row = Row {
+            key: key.get() as u64,
+            ticket: self.ticket,
+            who: t.0,
+        };
+        top_with(self.waiters.rows(), row)
     }
 }
 

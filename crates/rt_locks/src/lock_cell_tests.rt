@@ -83,6 +83,11 @@ fn keys(rt: &impl Abort, lock: &LockCell) -> Result<(), Fail> {
         (better, key)
     );
     assert_eq!(rt; lock.may_take(B, key, Kind::Mutex), None);
+    assert_eq!(rt; lock.top_requeued(B, worse), Some(row(21, 4, 1)));
+    assert_eq!(rt;
+        (lock.top_requeued(A, better), lock.top_requeued(A, key)),
+        (Some(row(19, 4, 0)), lock.top())
+    );
     Ok(())
 }
 

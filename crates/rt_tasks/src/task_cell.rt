@@ -2,7 +2,7 @@ ghost use Rattle.std.specs.Prelude.{◌≡◌, ◌<◌, ◌||◌, length, option
 ghost use Rattle.rt_model.specs.Parts.{effective_of};
 ghost use Rattle.rt_model.specs.State.{fresh_task};
 ghost use Rattle.rt_model.specs.laws.KeptTops.{kept_of};
-ghost use Rattle.rt_model.specs.steps.Task.{with_top, blocked_on, restored, leave_queue, sleeps, woken_up, is_interruptible, signalled, lock_woken};
+ghost use Rattle.rt_model.specs.steps.Task.{with_top, with_own, blocked_on, restored, leave_queue, sleeps, woken_up, is_interruptible, signalled, lock_woken};
 
 use crate::kept::{least_of, least_with};
 use crate::sleep::{is_interruptible, lock_state_woken, sleeps};
@@ -142,6 +142,13 @@ impl TaskCell {
         ensures { result ≡ effective_of (with_top (Some l) top self.now) }
     {
         least_with(self.own, self.kept.as_slice(), l, top)
+    }
+
+    /// The priority that it would run with if this were its own, `rt_effective_prio`.
+    pub fn effective_with_own(&self, p: Prio) -> Prio
+        ensures { result ≡ effective_of (with_own p self.now) }
+    {
+        least_of(p, self.kept.as_slice())
     }
 
     /// Gives it another priority, `__setscheduler_prio`.

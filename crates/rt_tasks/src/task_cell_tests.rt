@@ -24,6 +24,13 @@ fn a_task_is_boosted_and_deboosted(rt: HostRuntime) -> Result<(), Fail> {
     assert_eq!(rt; cell.effective(), better);
     cell.refresh(M, Some(worse));
     assert_eq!(rt; cell.effective(), own);
+    assert_eq!(rt;
+        (
+            cell.effective_with_own(best),
+            cell.effective_with_own(prio(70)?)
+        ),
+        (best, worse)
+    );
     cell.set_own(worse);
     cell.refresh(M, None);
     assert_eq!(rt; (cell.own(), cell.effective()), (worse, worse));

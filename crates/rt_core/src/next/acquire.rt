@@ -1,8 +1,8 @@
-// Acquires: fast, mark, take.
+// Acquires: fast, mark, take, busy.
 ghost use Rattle.std.specs.Prelude.{◌≡◌, Some};
 ghost use Rattle.rt_base.specs.declared.kind.Kind.{Kind};
 ghost use Rattle.rt_model.specs.Rows.{can_take};
-ghost use Rattle.rt_model.specs.events.Acquire.{fast_event, mark_event, acquire_event, take_event};
+ghost use Rattle.rt_model.specs.events.Acquire.{fast_event, mark_event, is_free, acquire_event, take_event, busy_event, try_event};
 
 use crate::next::chosen::Chosen;
 use crate::next::event::{boost_of, on_lock};
@@ -16,11 +16,18 @@ use rt_tasks::TaskCell;
 pub fn acquire_event(t: TaskId, l: LockId, lock: &LockCell) -> Chosen
     ensures { result ≡ acquire_event t l lock.now.part }
 {
-    if lock.owner().is_none() && !lock.bit() {
+    if is_free(lock) {
         fast_event(t, l)
     } else {
         mark_event(t, l)
     }
+}
+
+// Whether a lock has no owner, and its bit is clear.
+fn is_free(lock: &LockCell) -> bool
+    ensures { result ≡ is_free lock.now.part }
+{
+    lock.owner().is_none() && !lock.bit()
 }
 
 // The fast acquire, `rt_mutex_cmpxchg_acquire`.
@@ -57,5 +64,30 @@ pub fn take_event(t: TaskId, l: LockId, lock: &LockCell, task: &TaskCell) -> Cho
         boost: boost_of(t, task.effective(), after),
         reply: Some(Reply::Got),
         ..on_lock(t, EventKind::Take, l)
+    }
+}
+
+/// The first event of a call that tries: it gets a free lock at once, takes one that it may take, and else
+/// is answered that the lock is busy, `rt_mutex_slowtrylock`.
+pub fn try_event(t: TaskId, l: LockId, kind: Kind, lock: &LockCell, task: &TaskCell) -> Chosen
+    ensures { result ≡ try_event t l kind lock.now.part task.now }
+{
+    if is_free(lock) {
+        fast_event(t, l)
+    } else if can_take(t, kind, lock, task) {
+        take_event(t, l, lock, task)
+    } else {
+        busy_event(t, l, lock)
+    }
+}
+
+// Finds the lock taken.
+fn busy_event(t: TaskId, l: LockId, lock: &LockCell) -> Chosen
+    ensures { result ≡ busy_event t l lock.now.part }
+{
+    Chosen {
+        owner: lock.owner(),
+        reply: Some(Reply::Busy),
+        ..on_lock(t, EventKind::Busy, l)
     }
 }

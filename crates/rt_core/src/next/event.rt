@@ -1,11 +1,13 @@
 // Words of which the choice of an event is made.
 ghost use Rattle.std.specs.Prelude.{◌≡◌, ◌≤◌, Some, IfSome};
 ghost use Rattle.rt_model.specs.Choice.{bare, boost_of};
+ghost use Rattle.rt_model.specs.steps.Chain.{is_old};
 
 use crate::next::chosen::Chosen;
 use rt_base::limits::MAX_PRIO;
 use rt_base::{LockId, Prio, TaskId};
 use rt_model::{Event, EventKind};
+use rt_tasks::TaskCell;
 
 /// An event that names nothing but its task.
 pub fn bare(task: TaskId, kind: EventKind) -> Chosen
@@ -42,6 +44,16 @@ pub fn boost_of(t: TaskId, before: Prio, after: Prio) -> Option<(TaskId, Prio)>
         None
     } else {
         Some((t, after))
+    }
+}
+
+/// Whether a task is queued with an old key, one that isn't this priority.
+pub fn is_old(task: &TaskCell, prio: Prio) -> bool
+    ensures { result ≡ is_old task.now.blocked prio }
+{
+    match task.blocked_at() {
+        Some((_, key)) => key != prio,
+        None => false,
     }
 }
 

@@ -2,6 +2,8 @@
 #![tactic(auto)]
 
 mod kept;
+mod kept_tops;
+mod lock_set;
 mod sleep;
 mod task_cell;
 #[cfg(test)]

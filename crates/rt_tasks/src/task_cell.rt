@@ -4,7 +4,7 @@ ghost use Rattle.rt_model.specs.State.{fresh_task};
 ghost use Rattle.rt_model.specs.laws.KeptTops.{kept_of};
 ghost use Rattle.rt_model.specs.steps.Task.{with_top, with_own, blocked_on, restored, leave_queue, sleeps, woken_up, is_interruptible, signalled, lock_woken};
 
-use crate::kept::{least_of, least_with};
+use crate::kept_tops::KeptTops;
 use crate::sleep::{is_interruptible, lock_state_woken, sleeps};
 use crate::woken::Woken;
 use rt_base::{LockId, NoMemory, Prio, TaskState};
@@ -18,7 +18,7 @@ use std::marker::Model;
 pub struct TaskCell {
     own: Prio,
     effective: Prio,
-    kept: Vec<Option<Prio>>,
+    kept: KeptTops,
     blocked: Option<(LockId, Prio)>,
     state: TaskState,
     saved: TaskState,
@@ -31,9 +31,9 @@ impl Model for TaskCell {
 
     ghost Value = { TaskPart };
 
-    ghost view = { λ c. record { own = c.own; kept = c.kept.items; blocked = c.blocked; state = c.state; saved = c.saved; signal = c.signal } };
+    ghost view = { λ c. record { own = c.own; kept = c.kept; blocked = c.blocked; state = c.state; saved = c.saved; signal = c.signal } };
 
-    ghost invariant = { λ c. c.effective ≡ least c.own (keys_in c.kept.items) };
+    ghost invariant = { λ c. c.effective ≡ least c.own (keys_in c.kept) };
 }
 
 impl TaskCell {
@@ -41,7 +41,7 @@ impl TaskCell {
     pub fn new(alloc: Global, own: Prio, locks: u32) -> Result<TaskCell, NoMemory>
         ensures { IfOk result (λ cell. cell ≡ fresh_task locks own) }
     {
-        let kept = vec![in alloc; None; locks as usize]?;
+        let kept = KeptTops::new(alloc, locks)?;
         Ok(TaskCell {
             own,
             effective: own,
@@ -124,10 +124,7 @@ impl TaskCell {
     pub fn kept(&self, l: LockId) -> Option<Prio>
         ensures { result ≡ kept_of self.now l }
     {
-        match self.kept.get(l.0 as usize) {
-            Some(key) => *key,
-            None => None,
-        }
+        self.kept.get(l)
     }
 
     /// Whether it keeps a top of a lock.
@@ -141,7 +138,11 @@ impl TaskCell {
     pub fn effective_with(&self, l: LockId, top: Option<Prio>) -> Prio
         ensures { result ≡ effective_of (with_top (Some l) top self.now) }
     {
-        least_with(self.own, self.kept.as_slice(), l, top)
+        if (l.0 as usize) < self.kept.len() {
+            self.effective_after(l, &top)
+        } else {
+            self.effective
+        }
     }
 
     /// The priority that it would run with if this were its own, `rt_effective_prio`.
@@ -155,7 +156,7 @@ impl TaskCell {
     pub fn set_own(&mut self, p: Prio)
         ensures { self.new ≡ record self.old { own = p } }
     {
-        self.effective = least_of(p, self.kept.as_slice());
+        self.effective = self.effective_from(p);
         self.own = p;
     }
 
@@ -164,8 +165,7 @@ impl TaskCell {
         requires { l.0 < length self.old.kept }
         ensures { self.new ≡ with_top (Some l) (Some key) self.old }
     {
-        self.effective = least_with(self.own, self.kept.as_slice(), l, Some(key));
-        self.kept[l.0 as usize] = Some(key);
+        self.refresh(l, Some(key));
     }
 
     /// Keeps nothing of a lock any more, `rt_mutex_dequeue_pi`.
@@ -173,8 +173,7 @@ impl TaskCell {
         ensures { self.new ≡ with_top (Some l) None self.old }
     {
         if (l.0 as usize) < self.kept.len() {
-            self.effective = least_with(self.own, self.kept.as_slice(), l, None);
-            self.kept[l.0 as usize] = None;
+            self.refresh(l, None);
         }
     }
 
@@ -183,10 +182,42 @@ impl TaskCell {
         requires { l.0 < length self.old.kept }
         ensures { self.new ≡ with_top (Some l) top self.old }
     {
+        self.effective = self.effective_after(l, &top);
+        self.kept.put(l, top);
+    }
+
+    // What the effective priority becomes where this is kept of a lock. The best of the others is looked
+    // for only where the top that set it gets worse or goes.
+    fn effective_after(&self, l: LockId, top: &Option<Prio>) -> Prio
+        requires { l.0 < length self.now.kept }
+        ensures { result ≡ effective_of (with_top (Some l) top.now self.now) }
+    {
         match top {
-            Some(key) => self.keep_top(l, key),
-            None => self.drop_top(l),
+            Some(key) if *key <= self.effective => *key,
+            _ if self.is_boosted_by(l) => self.kept.least_with(self.own, l, *top),
+            _ => self.effective,
         }
+    }
+
+    // What it becomes where this is the own priority. The best top is looked for only where the own one
+    // set it and gets worse.
+    fn effective_from(&self, p: Prio) -> Prio
+        ensures { result ≡ effective_of (record self.now { own = p }) }
+    {
+        if p <= self.effective {
+            p
+        } else if self.own == self.effective {
+            self.kept.least(p)
+        } else {
+            self.effective
+        }
+    }
+
+    // Whether the effective priority is what it keeps of a lock, and not its own.
+    fn is_boosted_by(&self, l: LockId) -> bool
+        ensures { result ≡ false → effective_of (with_top (Some l) None self.now) ≡ effective_of self.now }
+    {
+        self.own != self.effective && self.kept.get(l) == Some(self.effective)
     }
 }
 

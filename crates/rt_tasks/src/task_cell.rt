@@ -145,18 +145,25 @@ impl TaskCell {
         }
     }
 
-    /// The priority that it would run with if this were its own, `rt_effective_prio`.
+    /// The priority that it would run with if this were its own, `rt_effective_prio`. The best top is
+    /// looked for only where the own one set it and gets worse.
     pub fn effective_with_own(&self, p: Prio) -> Prio
         ensures { result ≡ effective_of (with_own p self.now) }
     {
-        least_of(p, self.kept.as_slice())
+        if p <= self.effective {
+            p
+        } else if self.own == self.effective {
+            self.kept.least(p)
+        } else {
+            self.effective
+        }
     }
 
     /// Gives it another priority, `__setscheduler_prio`.
     pub fn set_own(&mut self, p: Prio)
         ensures { self.new ≡ record self.old { own = p } }
     {
-        self.effective = self.effective_from(p);
+        self.effective = self.effective_with_own(p);
         self.own = p;
     }
 
@@ -196,20 +203,6 @@ impl TaskCell {
             Some(key) if *key <= self.effective => *key,
             _ if self.is_boosted_by(l) => self.kept.least_with(self.own, l, *top),
             _ => self.effective,
-        }
-    }
-
-    // What it becomes where this is the own priority. The best top is looked for only where the own one
-    // set it and gets worse.
-    fn effective_from(&self, p: Prio) -> Prio
-        ensures { result ≡ effective_of (record self.now { own = p }) }
-    {
-        if p <= self.effective {
-            p
-        } else if self.own == self.effective {
-            self.kept.least(p)
-        } else {
-            self.effective
         }
     }
 

@@ -1,8 +1,10 @@
-use Rattle.std.proofs.Common.{◌≡◌, ◌<◌, ◌≤◌, ◌^◌, ◌∙◌, ℕ, sym, length, Option, Some, None, IfSome}
+use Rattle.std.proofs.Common.{◌≡◌, ◌<◌, ◌≤◌, ◌^◌, ◌∙◌, ℕ, ap, sym, subst, length, Option, Some, None, IfSome}
 use Rattle.rt_base.specs.Script.{Script}
 use Rattle.rt_base.specs.declared.id.TaskId.{TaskId}
 use Rattle.rt_model.specs.declared.event.Event.{Event}
-use Rattle.rt_model.specs.State.{State, shared}
+use Rattle.rt_model.specs.Parts.{ThreadPart, call_of}
+use Rattle.rt_model.specs.Stage.{IsServed}
+use Rattle.rt_model.specs.State.{State, shared, thread_part}
 use Rattle.rt_model.specs.NextEvent.{next_of, next_event}
 use Rattle.rt_model.specs.laws.Shape.{IsOf, IsWithin}
 use Rattle.rt_model.specs.laws.Lawful.{IsLawful}
@@ -12,6 +14,9 @@ use Rattle.rt_model.proofs.Local.{task-next_event, local, none}
 use Rattle.rt_model.proofs.Named.{within}
 use Rattle.rt_events.specs.Entry.{entry}
 use Rattle.rt_events.specs.WellFormed.{IsWellFormed}
+use Rattle.rt_core.specs.Core.{Made, with_threads}
+use Rattle.rt_core.specs.Walking.{FindsCursor}
+use Rattle.rt_core.proofs.Choosing.{served-here, cursor-here}
 use Rattle.rt_core.proofs.EntryWellFormed.{well_formed}
 use Rattle.rt_core.proofs.machine.Core.next.Goals.{After-boost_within}
 use Rattle.rt_core.proofs.machine.Core.next.Goals as goal
@@ -34,10 +39,16 @@ tells s made t None lawful is prio = tt
 tells s made t (Some e) lawful is prio = λ script number of few. well_formed script number s made t e of few lawful (choice s t e lawful.stage lawful.phases (sym is)) prio
 
 pub next_of-requires-clause-served : goal.next_of-requires-clause-served
-next_of-requires-clause-served c = ?
+next_of-requires-clause-served c =
+    let s = with_threads c.self.inside.shared c.self.inside.threads.items in
+    let at : thread_part s c.args.t ≡ c.thread.result.now = ap (λ (m : Made). thread_part m.state c.args.t) c.self.view_is ∙ sym c.thread.ensures.part in
+    subst (λ (th : ThreadPart). IfSome (call_of th) (IsServed (length s.tasks) (length s.locks))) at (served-here s c.self.inside.made c.args.t c.self.invariant.0)
 
 pub next_of-requires-clause-cursor : goal.next_of-requires-clause-cursor
-next_of-requires-clause-cursor c = ?
+next_of-requires-clause-cursor c =
+    let s = with_threads c.self.inside.shared c.self.inside.threads.items in
+    let at : thread_part s c.args.t ≡ c.thread.result.now = ap (λ (m : Made). thread_part m.state c.args.t) c.self.view_is ∙ sym c.thread.ensures.part in
+    subst (λ (th : ThreadPart). FindsCursor c.self.inside.shared th.phase) at (cursor-here s c.self.inside.made c.args.t c.self.invariant.0)
 
 -- the event that was chosen
 event : (c : After-boost_within) → c.event_of-event.result ≡ next_event c.args.self.now.state c.args.t

@@ -3,7 +3,7 @@ use Rattle.std.proofs.lemmas.Bool.Decides.{nat_tests}
 use Rattle.std.proofs.lemmas.Map.Keys.{le_from_is_le}
 use Rattle.rt_model.specs.Parts.{TaskPart, effective_of, keys_in}
 use Rattle.rt_tasks.proofs.Least.{best-own, worse-own, worse-test}
-use Rattle.rt_tasks.proofs.task_cell.TaskCell.effective_from.Goals as goal
+use Rattle.rt_tasks.proofs.task_cell.TaskCell.effective_with_own.Goals as goal
 
 pub returns-then-le : goal.returns-then-le
 returns-then-le c =

@@ -1,4 +1,4 @@
-ghost use Rattle.std.specs.Prelude.{◌≡◌, ◌<◌, ◌≤◌, ◌^◌, true, None, Some, IfOk, IfSome, IsSome};
+ghost use Rattle.std.specs.Prelude.{◌≡◌, ◌<◌, ◌≤◌, ◌+◌, ◌^◌, length, true, None, Some, IfOk, IfSome, IsSome};
 ghost use Rattle.rt_model.specs.State.{free_lock};
 ghost use Rattle.rt_model.specs.Rows.{top_waiter, top_key, top_task, row_of, queued_key, without, may_take};
 ghost use Rattle.rt_model.specs.steps.Lock.{queued, requeued, left_by, taken_by, given_up};
@@ -154,7 +154,7 @@ impl LockCell {
     }
 }
 
-// The steps of which events are made.
+// The steps of which events are made. A call counts the comparisons of rows.
 impl LockCell {
     /// Makes a task the owner, `rt_mutex_set_owner`. Nothing else changes.
     pub fn set_owner(&mut self, t: TaskId)
@@ -182,6 +182,7 @@ impl LockCell {
     pub fn take<L: Ledger>(&mut self, t: TaskId, steps: &mut Steps<L>) -> Option<Row>
         ensures part { self.new ≡ record self.old { part = taken_by t self.old.part } }
         ensures top { result ≡ top_waiter self.new.part.rows }
+        ensures cost { steps.new ≤ steps.old + length self.old.part.rows }
     {
         let _taken = self.waiters.remove(t.0, steps);
         let top = self.waiters.top();
@@ -197,6 +198,7 @@ impl LockCell {
         requires tickets { self.old.part.ticket < 2 ^ 63 }
         ensures part { self.new ≡ record self.old { part = queued t key self.old.part } }
         ensures top { result ≡ is_top t self.new.part.rows }
+        ensures cost { steps.new ≤ steps.old + length self.old.part.rows }
     {
         self.waiters
             .insert(key.get() as u64, self.ticket, t.0, steps);
@@ -212,6 +214,7 @@ impl LockCell {
         requires tickets { self.old.part.ticket < 2 ^ 63 }
         ensures part { self.new ≡ record self.old { part = requeued t key self.old.part } }
         ensures top { result ≡ top_changed self.old.part.rows self.new.part.rows }
+        ensures cost { steps.new ≤ steps.old + length self.old.part.rows }
     {
         let top = self.waiters.top();
         self.waiters
@@ -224,6 +227,7 @@ impl LockCell {
     pub fn remove<L: Ledger>(&mut self, t: TaskId, steps: &mut Steps<L>) -> bool
         ensures part { self.new ≡ record self.old { part = left_by t self.old.part } }
         ensures top { result ≡ is_top t self.old.part.rows }
+        ensures cost { steps.new ≤ steps.old + length self.old.part.rows }
     {
         let was_top = is_first(self.waiters.top(), t);
         let _left = self.waiters.remove(t.0, steps);

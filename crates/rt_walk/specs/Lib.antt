@@ -1,0 +1,10 @@
+pub mod Lent
+pub mod Link
+pub mod Next
+pub mod Step
+pub use Rattle.rt_model.specs.Parts
+pub use Rattle.rt_model.specs.Rows
+pub use Rattle.rt_model.specs.State
+pub use Rattle.rt_model.specs.laws
+pub use Rattle.rt_model.specs.steps
+pub use Rattle.rt_locks.specs.OwnerCell

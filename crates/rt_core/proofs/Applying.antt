@@ -4,27 +4,33 @@ use Rattle.std.specs.Prelude.{option_map, slice_set}
 use Rattle.std.proofs.Math.ListN.{length-set}
 use Rattle.rt_base.specs.declared.call.Call.{Call}
 use Rattle.rt_base.specs.declared.call.Call.TheVariants as calls
-use Rattle.rt_base.specs.declared.id.Cpu.{Cpu}
+use Rattle.rt_base.specs.declared.id.LockId.{LockId}
 use Rattle.rt_base.specs.declared.id.TaskId.{TaskId}
 use Rattle.rt_base.specs.declared.reply.Reply.{Reply}
 use Rattle.rt_model.specs.declared.event.Event.{Event}
 use Rattle.rt_model.specs.declared.phase.Phase.{Phase}
+use Rattle.rt_model.specs.declared.phase.Phase.TheVariants as phases
+use Rattle.rt_model.specs.declared.phase.Route.TheVariants.{Full, Short}
 use Rattle.rt_model.specs.declared.row.Row.{Row}
 use Rattle.rt_model.specs.Parts.{ThreadPart, call_of}
 use Rattle.rt_model.specs.Rows.{row_of}
 use Rattle.rt_model.specs.State.{State, Shared, shared, lock_at, owner_part, thread_part}
 use Rattle.rt_model.specs.Stage.{IsServed}
 use Rattle.rt_model.specs.Choice.{called_lock}
-use Rattle.rt_model.specs.NextEvent.{next_event}
+use Rattle.rt_model.specs.events.Own.{own_answer}
+use Rattle.rt_model.specs.NextEvent.{event_of, next_event}
 use Rattle.rt_model.specs.StateAfter.{shared_after, thread_after, state_after}
 use Rattle.rt_model.specs.laws.Lawful.{IsLawful}
-use Rattle.rt_model.proofs.Calling.{IsIn, thread_part-index}
-use Rattle.rt_model.proofs.events.Acquire.{is_fast, is_mark, is_take}
+use Rattle.rt_model.proofs.Calling.{thread_part-index}
+use Rattle.rt_model.proofs.events.Acquire.{is_fast, is_mark, is_take, is_busy}
 use Rattle.rt_model.proofs.events.Wait.{is_wait, is_again}
+use Rattle.rt_model.proofs.events.Walk.{is_walk, is_walkend}
 use Rattle.rt_model.proofs.events.Release.{is_free, is_give}
-use Rattle.rt_model.proofs.NextEvents.{IsNext, by_own, by_acquire, by_wait, by_release, choice}
+use Rattle.rt_model.proofs.NextEvents.{IsNext, by_own, by_acquire, by_wait, by_walk, by_setprio, by_release, choice}
 use Rattle.rt_model.proofs.Named.{within}
-use Rattle.rt_model.proofs.Waiters.{slow-unqueued}
+use Rattle.rt_model.proofs.Waiters.{slow-unqueued, walk-link}
+use Rattle.rt_model.proofs.laws.Rows.{blocked-queued}
+use Rattle.rt_model.proofs.laws.Walks.{walk-room}
 use Rattle.rt_model.proofs.Lists.{All-default, update-index}
 use Rattle.rt_model.proofs.Lawful.{IsLawful-next}
 use Rattle.rt_model.specs.CanMove.{IsUninvolved}
@@ -33,53 +39,88 @@ use Rattle.rt_model.proofs.Uninvolved.{uninvolved-enabled, uninvolved-walking}
 use Rattle.rt_core.specs.Core.{Made, with_threads}
 use Rattle.rt_core.specs.Enabled.{IsKeptAt, AreKept}
 use Rattle.rt_core.specs.declared.enabled.Enabled.{Enabled}
-use Rattle.rt_core.specs.Fits.{CanQueue, Fits}
+use Rattle.rt_core.specs.Links.{HasRoom}
+use Rattle.rt_core.specs.Fits.{NamesLock, CanQueue, CanLink, CanSet, Fits}
+use Rattle.rt_core.proofs.Choosing.{cursor-within}
 
 -- ---- what an event finds
 
--- an event is of a call, and on a lock
-record IsCalled (s : State) (t : TaskId) (e : Event) : Type 0 where
-  call : IsSome (call_of (thread_part s t))
-  lock : IsSome e.lock
-
-called_lock-some : (n : ℕ) (cpu : Cpu) (call : Call) → IsServed n call → IsSome (called_lock cpu call)
-called_lock-some n cpu (calls.Lock l) served = refl
-called_lock-some n cpu (calls.Unlock l) served = refl
-called_lock-some n cpu _ served = absurd served
-
-called_by : (s : State) (t : TaskId) (e x : Event) (phase : Phase) (call : Call) → IsIn s t phase call → e ≡ x → IsSome x.lock → IsCalled s t e
-called_by s t e x phase call at is some = record { call = subst IsSome (sym at.calling) refl; lock = subst (λ (y : Event). IsSome y.lock) (sym is) some }
-
-called : (s : State) (t : TaskId) (e : Event) → IsNext s t e → IsCalled s t e
-called s t e (by_own call answer is) = called_by s t e _ _ _ is.at is.event (called_lock-some (length s.locks) (thread_part s t).cpu call is.at.served)
-called s t e (by_acquire l (is_fast is)) = called_by s t e _ _ _ is.at is.event refl
-called s t e (by_acquire l (is_mark is)) = called_by s t e _ _ _ is.at is.event refl
-called s t e (by_acquire l (is_take is)) = called_by s t e _ _ _ is.at is.event refl
-called s t e (by_wait l (is_wait is)) = called_by s t e _ _ _ is.at is.event refl
-called s t e (by_wait l (is_again is)) = called_by s t e _ _ _ is.at is.event refl
-called s t e (by_release l (is_free is)) = called_by s t e _ _ _ is.at is.event refl
-called s t e (by_release l (is_give is)) = called_by s t e _ _ _ is.at is.event refl
+-- its task is at a call
+calling : (s : State) (t : TaskId) (e : Event) → next_event s t ≡ Some e → IsSome (call_of (thread_part s t))
+calling s t e is = by_call (call_of (thread_part s t)) refl is
+  where
+    by_call : (call : Option Call) → call_of (thread_part s t) ≡ call → event_of (shared s) t (thread_part s t) call ≡ Some e → IsSome (call_of (thread_part s t))
+    by_call None at is = cc
+    by_call (Some call) at is = subst IsSome (sym at) refl
 
 unkeyed : (row : Option Row) → option_map (λ (r : Row). r.key) row ≡ None → row ≡ None
 unkeyed None is = refl
 unkeyed (Some row) is = cc
 
--- a task that is to be queued isn't, and finds a ticket
-abbrev Queues : State → Event → Type 0
-Queues s e = CanQueue e.kind e (lock_at (shared s) e.lock)
+keyed : (row : Option Row) (key : ℕ) → option_map (λ (r : Row). r.key) row ≡ Some key → IsSome row
+keyed None key is = cc
+keyed (Some row) key is = refl
 
-queues : (s : State) (made : ℕ) (t : TaskId) (e : Event) → IsLawful s made → made < 2 ^ 62 → IsNext s t e → Queues s e
-queues s made t e lawful few (by_own call answer is) = subst (Queues s) (sym is.event) tt
-queues s made t e lawful few (by_acquire l (is_fast is)) = subst (Queues s) (sym is.event) tt
-queues s made t e lawful few (by_acquire l (is_mark is)) = subst (Queues s) (sym is.event) tt
-queues s made t e lawful few (by_acquire l (is_take is)) = subst (Queues s) (sym is.event) tt
-queues s made t e lawful few (by_wait l (is_wait is)) =
-    let none = unkeyed (row_of t (owner_part s l).rows) (slow-unqueued s made t lawful l (calls.Lock l) is.at) in
-    let least = lawful.rows.tickets l in
-    subst (Queues s) (sym is.event) (none, omega (arith, least, few))
-queues s made t e lawful few (by_wait l (is_again is)) = subst (Queues s) (sym is.event) tt
-queues s made t e lawful few (by_release l (is_free is)) = subst (Queues s) (sym is.event) tt
-queues s made t e lawful few (by_release l (is_give is)) = subst (Queues s) (sym is.event) tt
+-- a call that its thread answers is on a lock
+called_lock-some : (s : State) (t : TaskId) (call : Call) (answer : Reply) → IsServed (length s.threads) (length s.locks) call → own_answer (thread_part s t) call ≡ Some answer → IsSome (called_lock (thread_part s t).cpu call)
+called_lock-some s t (calls.Lock l) answer served is = refl
+called_lock-some s t (calls.TryLock l) answer served is = refl
+called_lock-some s t (calls.Unlock l) answer served is = refl
+called_lock-some s t (calls.SetPrio u prio) answer served is = cc
+called_lock-some s t _ answer served is = absurd served
+
+-- what an event of its kind needs
+record IsReady (s : State) (t : TaskId) (e : Event) : Type 0 where
+  named : NamesLock e.kind e
+  queue : CanQueue e.kind e (lock_at (shared s) e.lock)
+  link : CanLink e.kind e (shared s) (thread_part s t)
+  set : CanSet e.kind e
+
+module _ (s : State) (made : ℕ) (t : TaskId) (lawful : IsLawful s made) (few : made < 2 ^ 62) where
+  -- the path of a walk has room
+  room : HasRoom (thread_part s t).phase
+  room = by_phase (thread_part s t).phase refl
+    where
+      by_phase : (phase : Phase) → (thread_part s t).phase ≡ phase → HasRoom phase
+      by_phase (phases.Walk u (Full path)) is =
+          let most = lawful.shape.few_tasks in
+          let there = cursor-within s made t lawful u (Full path) is in
+          (omega (arith, there, most), walk-room s made t u path lawful is)
+      by_phase (phases.Walk u (Short answer)) is = tt
+      by_phase _ is = tt
+
+  ready : (e : Event) → IsNext s t e → IsReady s t e
+  ready e (by_own call answer is) = subst (IsReady s t) (sym is.event) (record { named = called_lock-some s t call answer is.at.served is.why; queue = tt; link = tt; set = tt })
+  ready e (by_acquire l (is_fast is)) = subst (IsReady s t) (sym is.event) (record { named = refl; queue = tt; link = tt; set = tt })
+  ready e (by_acquire l (is_mark is)) = subst (IsReady s t) (sym is.event) (record { named = refl; queue = tt; link = tt; set = tt })
+  ready e (by_acquire l (is_take is)) = subst (IsReady s t) (sym is.event) (record { named = refl; queue = tt; link = tt; set = tt })
+  ready e (by_acquire l (is_busy is)) = subst (IsReady s t) (sym is.event) (record { named = refl; queue = tt; link = tt; set = tt })
+  ready e (by_wait l (is_wait is)) =
+      let none = unkeyed (row_of t (owner_part s l).rows) (slow-unqueued s made t lawful l (calls.Lock l) is.at) in
+      let least = lawful.rows.tickets l in
+      subst (IsReady s t) (sym is.event) (record { named = refl; queue = (none, omega (arith, least, few)); link = tt; set = tt })
+  ready e (by_wait l (is_again is)) = subst (IsReady s t) (sym is.event) (record { named = refl; queue = tt; link = tt; set = tt })
+  ready e (by_walk route u (is_walk l key is)) =
+      let least = lawful.rows.tickets l in
+      let at = walk-link s made t route u l key e lawful is in
+      let queued = keyed (row_of u (owner_part s l).rows) key (blocked-queued s made u l key lawful.rows is.blocked) in
+      let blocked = subst (λ (b : Option (LockId × ℕ)). IsSome b) (sym is.blocked) refl in
+      subst (IsReady s t) (sym is.event) (record {
+        named = refl;
+        queue = tt;
+        link = record {
+          cursor = refl;
+          blocked = ap (λ (b : Option (LockId × ℕ)). option_map (λ (at : LockId × ℕ). at.0) b) is.blocked;
+          queued = record { blocked = blocked; queued = queued; tickets = omega (arith, least, few); unowned = at.unowned };
+          owner = refl;
+          room = room;
+        };
+        set = tt;
+      })
+  ready e (by_walk route u (is_walkend is)) = subst (IsReady s t) (sym is.event) (record { named = tt; queue = tt; link = tt; set = tt })
+  ready e (by_setprio u prio is) = subst (IsReady s t) (sym is.event) (record { named = tt; queue = tt; link = tt; set = record { target = refl; value = is.at.served.1 } })
+  ready e (by_release l (is_free is)) = subst (IsReady s t) (sym is.event) (record { named = refl; queue = tt; link = tt; set = tt })
+  ready e (by_release l (is_give is)) = subst (IsReady s t) (sym is.event) (record { named = refl; queue = tt; link = tt; set = tt })
 
 answered : (reply : Option Reply) (call : Option Call) → IsSome call → IfSome reply (λ _. IsSome call)
 answered None call some = tt
@@ -93,18 +134,22 @@ next s made e lawful is = choice s e.task e lawful.stage lawful.phases is
 fits : (s : State) (made : ℕ) (e : Event) → IsLawful s made → made < 2 ^ 62 → next_event s e.task ≡ Some e → Fits e (shared s) (thread_part s e.task)
 fits s made e lawful few is =
     let chosen = next s made e lawful is in
-    let names = within s e.task e lawful.shape chosen in
-    let found = called s e.task e chosen in
+    let names = within s made e.task e lawful chosen in
+    let ready = ready s made e.task lawful few e chosen in
     let same = lawful.shape.tasks in
+    let there = λ (o : Option TaskId) (is : IfSome o (λ t. t.0 < length s.threads)). subst (λ (n : ℕ). IfSome o (λ t. t.0 < n)) (sym same) is in
     record {
       task = subst (λ (n : ℕ). e.task.0 < n) (sym same) names.task;
       lock = names.lock;
-      named = found.lock;
-      owner = subst (λ (n : ℕ). IfSome e.owner (λ t. t.0 < n)) (sym same) names.owner;
-      woken = subst (λ (n : ℕ). IfSome e.woken (λ t. t.0 < n)) (sym same) names.woken;
+      named = ready.named;
+      other = there e.other names.other;
+      owner = there e.owner names.owner;
+      woken = there e.woken names.woken;
       kinds = All-default (λ (thread : ThreadPart). length thread.kinds ≡ length s.locks) s.threads e.task.0 _ lawful.shape.kinds names.task;
-      call = answered e.reply (call_of (thread_part s e.task)) found.call;
-      queue = queues s made e.task e lawful few chosen;
+      call = answered e.reply (call_of (thread_part s e.task)) (calling s e.task e is);
+      queue = ready.queue;
+      link = ready.link;
+      set = ready.set;
     }
 
 -- ---- the parts of a core, with the value that they make
@@ -119,7 +164,7 @@ module _ (sh : Shared) (threads : List ThreadPart) (made : ℕ) (now : Made) (e 
 
   -- its task has a thread
   pub thread-there : e.task.0 < length threads
-  thread-there = (within (with_threads sh threads) e.task e lawful.shape (next (with_threads sh threads) made e lawful chosen_there)).task
+  thread-there = (within (with_threads sh threads) made e.task e lawful (next (with_threads sh threads) made e lawful chosen_there)).task
 
   own_thread : (thread : ThreadPart) → thread ≡ get_or threads e.task.0 thread → thread_part (with_threads sh threads) e.task ≡ thread
   own_thread thread at = thread_part-index (with_threads sh threads) e.task thread thread-there at
@@ -133,7 +178,7 @@ module _ (sh : Shared) (threads : List ThreadPart) (made : ℕ) (now : Made) (e 
   named-left moved found o is_found there = subst (λ (n : ℕ). IfSome o (λ t. t.0 < n)) (sym (ap length is_found ∙ length-set threads e.task.0 moved)) there
 
   pub names-within : IsWithin (length threads) (length sh.locks) e
-  names-within = within (with_threads sh threads) e.task e lawful.shape (next (with_threads sh threads) made e lawful chosen_there)
+  names-within = within (with_threads sh threads) made e.task e lawful (next (with_threads sh threads) made e lawful chosen_there)
 
   -- the parts that it leaves make the state that it leaves
   left_here : (left : Shared) (thread moved : ThreadPart) → thread ≡ get_or threads e.task.0 thread → left ≡ shared_after sh thread e → moved ≡ thread_after sh thread e

@@ -5,13 +5,17 @@ use Rattle.rt_base.specs.declared.id.TaskId.{TaskId}
 use Rattle.rt_model.specs.declared.event.Event.{Event}
 use Rattle.rt_model.specs.declared.event_kind.EventKind.{EventKind}
 use Rattle.rt_model.specs.declared.event_kind.EventKind.TheVariants as kinds
+use Rattle.rt_base.specs.declared.reply.Reply.TheVariants.{Done}
+use Rattle.rt_model.specs.declared.phase.Route.TheVariants.{Short}
 use Rattle.rt_model.specs.Parts.{OwnerPart, TaskPart, ThreadPart}
-use Rattle.rt_model.specs.State.{Shared, free_lock, lock_in}
+use Rattle.rt_model.specs.State.{Shared, free_lock, lock_in, task_at}
 use Rattle.rt_model.specs.steps.Task.{refreshed}
+use Rattle.rt_model.specs.steps.Chain.{goes_on, phase_of_walk}
+use Rattle.rt_model.specs.events.Walk.{phase_after_link}
 use Rattle.rt_model.specs.Effect.{Touched}
 use Rattle.rt_model.specs.Rules.{touched}
 use Rattle.rt_model.specs.StateAfter.{update, at_lock, at_task, shared_after}
-use Rattle.rt_model.proofs.Lists.{length-update, at_lock-none, at_task-none}
+use Rattle.rt_model.proofs.Lists.{length-update, length-at_task, at_lock-none, at_task-none}
 use Rattle.rt_model.proofs.PartsAfter.{read-update}
 use Rattle.rt_core.specs.Fits.{thread_moved}
 
@@ -27,6 +31,9 @@ lock-many sh left i f is = subst (SameMany sh) (sym is) (record { locks = length
 
 pub task-many : (sh left : Shared) (i : ℕ) (f : TaskPart → TaskPart) → left ≡ record sh { tasks = update sh.tasks i f } → SameMany sh left
 task-many sh left i f is = subst (SameMany sh) (sym is) (record { locks = refl; tasks = length-update sh.tasks i f })
+
+pub named-many : (sh left : Shared) (o : Option TaskId) (f : TaskPart → TaskPart) → left ≡ record sh { tasks = at_task sh.tasks o f } → SameMany sh left
+named-many sh left o f is = subst (SameMany sh) (sym is) (record { locks = refl; tasks = length-at_task sh.tasks o f })
 
 pub both-many : (sh mid left : Shared) → SameMany sh mid → SameMany mid left → SameMany sh left
 both-many sh mid left first then = record { locks = then.locks ∙ first.locks; tasks = then.tasks ∙ first.tasks }
@@ -68,6 +75,27 @@ left-at sh thread e kind l is named = sym (λ i. shared_after sh thread (record 
 pub moved-at : (sh : Shared) (thread : ThreadPart) (e : Event) (kind : EventKind) (l : LockId) → e.kind ≡ kind → e.lock ≡ Some l → thread_moved sh thread (record e { kind = kind; lock = Some l }) ≡ thread_moved sh thread e
 moved-at sh thread e kind l is named = sym (λ i. thread_moved sh thread (record e { kind = is i; lock = named i }))
 
+-- an event of this kind, wherever it is
+pub kind-left : (sh : Shared) (thread : ThreadPart) (e : Event) (kind : EventKind) → e.kind ≡ kind → shared_after sh thread (record e { kind = kind }) ≡ shared_after sh thread e
+kind-left sh thread e kind is = sym (λ i. shared_after sh thread (record e { kind = is i }))
+
+pub kind-moved : (sh : Shared) (thread : ThreadPart) (e : Event) (kind : EventKind) → e.kind ≡ kind → thread_moved sh thread (record e { kind = kind }) ≡ thread_moved sh thread e
+kind-moved sh thread e kind is = sym (λ i. thread_moved sh thread (record e { kind = is i }))
+
+-- a thread after a link, whose event leaves these parts
+pub link-moved : (sh left : Shared) (thread moved : ThreadPart) (e : Event) (l : LockId) → e.kind ≡ kinds.Walk → e.lock ≡ Some l → left ≡ shared_after sh thread e
+    → moved ≡ record thread { phase = phase_after_link (Some l) e.owner (task_at left e.owner) thread.phase } → moved ≡ thread_moved sh thread e
+link-moved sh left thread moved e l is named is_left is_moved =
+    let all = is_left ∙ sym (left-at sh thread e kinds.Walk l is named) in
+    is_moved ∙ (ap (λ (x : Shared). record thread { phase = phase_after_link (Some l) e.owner (task_at x e.owner) thread.phase }) all ∙ moved-at sh thread e kinds.Walk l is named)
+
+-- and after a setprio
+pub set-moved : (sh left : Shared) (thread moved : ThreadPart) (e : Event) → e.kind ≡ kinds.SetPrio → left ≡ shared_after sh thread e
+    → moved ≡ record thread { phase = phase_of_walk (Short Done) (goes_on (Short Done) e.other (task_at left e.other)) } → moved ≡ thread_moved sh thread e
+set-moved sh left thread moved e is is_left is_moved =
+    let all = is_left ∙ sym (kind-left sh thread e kinds.SetPrio is) in
+    is_moved ∙ (ap (λ (x : Shared). record thread { phase = phase_of_walk (Short Done) (goes_on (Short Done) e.other (task_at x e.other)) }) all ∙ kind-moved sh thread e kinds.SetPrio is)
+
 -- parts that are touched and left as they were
 pub untouched : (sh : Shared) (named : Touched) → sh ≡ record {
   locks = at_lock sh.locks named.lock (λ lock. lock);
@@ -84,7 +112,7 @@ untouched sh named =
     let readers = at_lock-none sh.readers named.readers (λ readers. readers) (λ readers. refl) in
     sym (λ i. record { locks = locks i; readers = readers i; tasks = woken i })
 
--- an event of another kind than the seven leaves all as it was
+-- an event of another kind than the ten leaves all as it was
 pub record LeavesAll (sh : Shared) (own : ThreadPart) (e : Event) : Type 0 where
   pub shared : sh ≡ shared_after sh own e
   pub thread : own ≡ thread_moved sh own e
@@ -97,6 +125,9 @@ pub record IsOther (kind : EventKind) : Type 0 where
   pub again : kind ≢ kinds.Again
   pub free : kind ≢ kinds.Free
   pub give : kind ≢ kinds.Give
+  pub walk : kind ≢ kinds.Walk
+  pub walkend : kind ≢ kinds.WalkEnd
+  pub setprio : kind ≢ kinds.SetPrio
 
 others-leave : (sh : Shared) (thread : ThreadPart) (e : Event) (kind : EventKind) → IsOther kind → LeavesAll sh thread (record e { kind = kind })
 others-leave sh thread e kinds.Fast other = absurd (other.fast refl)
@@ -106,7 +137,14 @@ others-leave sh thread e kinds.Wait other = absurd (other.wait refl)
 others-leave sh thread e kinds.Again other = absurd (other.again refl)
 others-leave sh thread e kinds.Free other = absurd (other.free refl)
 others-leave sh thread e kinds.Give other = absurd (other.give refl)
+others-leave sh thread e kinds.Walk other = absurd (other.walk refl)
+others-leave sh thread e kinds.WalkEnd other = absurd (other.walkend refl)
+others-leave sh thread e kinds.SetPrio other = absurd (other.setprio refl)
 others-leave sh thread e kind other = record { shared = untouched sh (touched kind (record e { kind = kind })); thread = refl }
 
 pub other-leaves : (sh : Shared) (thread : ThreadPart) (e : Event) → IsOther e.kind → LeavesAll sh thread e
 other-leaves sh thread e other = others-leave sh thread e e.kind other
+
+-- the end of a walk leaves all as it was but its thread
+pub end-left : (sh : Shared) (thread : ThreadPart) (e : Event) → e.kind ≡ kinds.WalkEnd → sh ≡ shared_after sh thread e
+end-left sh thread e is = untouched sh (touched kinds.WalkEnd e) ∙ kind-left sh thread e kinds.WalkEnd is

@@ -4,9 +4,12 @@ pub mod Prefixes
 pub mod PrefixesAll
 pub mod OwnerParts
 pub mod SharedSteps
+pub mod Walked
+pub mod TwoCells
 pub mod Holds
 pub mod Starting
 pub mod Leaving
+pub mod Linking
 pub mod Choosing
 pub mod Applying
 pub mod EntryWellFormed

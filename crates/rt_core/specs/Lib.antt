@@ -1,6 +1,7 @@
 pub mod Shared
 pub mod Thread
 pub mod Walking
+pub mod Links
 pub mod TaskSet
 pub mod Core
 pub mod Enabled
@@ -28,3 +29,6 @@ pub use Rattle.rt_locks.specs.OwnerCell
 pub use Rattle.rt_events.specs.Words
 pub use Rattle.rt_events.specs.Entry
 pub use Rattle.rt_events.specs.WellFormed
+pub use Rattle.rt_walk.specs.Link
+pub use Rattle.rt_walk.specs.Next
+pub use Rattle.rt_walk.specs.Step

@@ -1,11 +1,14 @@
 // What an event leaves of the shared parts and of its own thread.
-ghost use Rattle.std.specs.Prelude.{◌≡◌, ◌<◌, length, Some};
+ghost use Rattle.std.specs.Prelude.{◌≡◌, ◌≢◌, ◌<◌, length, Some};
+ghost use Rattle.rt_model.specs.declared.event_kind.EventKind.TheVariants.{WalkEnd, SetPrio};
 ghost use Rattle.rt_model.specs.StateAfter.{shared_after, thread_after};
 ghost use Rattle.rt_core.specs.Fits.{Fits, thread_moved};
 
 mod acquire;
 mod release;
 mod wait;
+mod wakeups;
+mod walk;
 
 use crate::shared::Shared;
 use crate::thread::Thread;
@@ -18,17 +21,34 @@ pub fn make(shared: &mut Shared, thread: &mut Thread, e: &Event)
     ensures shared { shared.new ≡ shared_after shared.old thread.old e.now }
     ensures thread { thread.new ≡ thread_after shared.old thread.old e.now }
 {
-    // So far every event is on a lock, which the condition says.
-    let Some(l) = e.lock else { return };
-    make_on_lock(shared, thread, e, l);
+    make_unanswered(shared, thread, e);
     if let Some(reply) = e.reply {
         thread.answer(reply);
+    }
+}
+
+// Makes an event, but for its answer.
+fn make_unanswered(shared: &mut Shared, thread: &mut Thread, e: &Event)
+    requires { Fits e.now shared.old thread.old }
+    ensures shared { shared.new ≡ shared_after shared.old thread.old e.now }
+    ensures thread { thread.new ≡ thread_moved shared.old thread.old e.now }
+{
+    match e.kind {
+        EventKind::WalkEnd => thread.end_walk(),
+        EventKind::SetPrio => wakeups::setprio(shared, thread, e),
+        _ => {
+            // Each other event is on a lock, which the condition says.
+            let Some(l) = e.lock else { return };
+            make_on_lock(shared, thread, e, l);
+        }
     }
 }
 
 // Makes an event on a lock, but for its answer.
 fn make_on_lock(shared: &mut Shared, thread: &mut Thread, e: &Event, l: LockId)
     requires fits { Fits e.now shared.old thread.old }
+    requires not_end { e.now.kind ≢ WalkEnd }
+    requires not_set { e.now.kind ≢ SetPrio }
     requires named { e.now.lock ≡ Some l }
     requires lock { l.0 < length shared.old.locks }
     ensures shared { shared.new ≡ shared_after shared.old thread.old e.now }
@@ -40,8 +60,10 @@ fn make_on_lock(shared: &mut Shared, thread: &mut Thread, e: &Event, l: LockId)
         EventKind::Take => acquire::take(shared, e, l, thread.kind_of(l)),
         EventKind::Wait => wait::wait(shared, thread, e, l),
         EventKind::Again => wait::again(shared, e, thread.rest_for(l)),
+        EventKind::Walk => walk::walk(shared, thread, e, l),
         EventKind::Free => release::free(shared, l),
         EventKind::Give => release::give(shared, e, l, thread.kind_of(l)),
+        // A call that finds its lock busy changes nothing but by its answer.
         _ => {}
     }
 }

@@ -3,6 +3,7 @@ ghost use Rattle.rt_base.specs.Script.{IsScript};
 ghost use Rattle.rt_model.specs.Stage.{HasOnlyMutexes};
 ghost use Rattle.rt_model.specs.State.{start, shared, lock_in, readers_in, task_in};
 
+mod links;
 mod locks;
 mod tasks;
 

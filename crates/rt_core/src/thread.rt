@@ -1,5 +1,9 @@
-ghost use Rattle.std.specs.Prelude.{◌≡◌, ◌≤◌, ◌<◌, length, IfOk, IfSome, IsSome, All, Some, option_map};
-ghost use Rattle.rt_model.specs.Parts.{call_of, kind_of};
+ghost use Rattle.std.specs.Prelude.{◌≡◌, ◌≤◌, ◌<◌, length, IfOk, IfSome, IsSome, All, Option, None, Some, option_map};
+ghost use Rattle.rt_base.specs.declared.id.TaskId.{TaskId};
+ghost use Rattle.rt_base.specs.declared.reply.Reply.{Reply};
+ghost use Rattle.rt_model.specs.declared.phase.Phase.TheVariants.{Walk};
+ghost use Rattle.rt_model.specs.declared.phase.Route.TheVariants.{Full, Short};
+ghost use Rattle.rt_model.specs.Parts.{TaskPart, call_of, kind_of};
 ghost use Rattle.rt_model.specs.State.{fresh_thread};
 ghost use Rattle.rt_model.specs.Stage.{IsServed};
 ghost use Rattle.rt_model.specs.Choice.{called_lock};
@@ -8,10 +12,15 @@ ghost use Rattle.rt_model.specs.steps.Task.{rest_of, sleep_of};
 ghost use Rattle.rt_model.specs.steps.Thread.{answered_with, holds_after, with_hold};
 ghost use Rattle.rt_model.specs.Run.{is_at_end};
 ghost use Rattle.rt_model.specs.Order.{in_walk};
+ghost use Rattle.rt_model.specs.steps.Chain.{followed, goes_on, phase_of_walk};
+ghost use Rattle.rt_model.specs.events.Walk.{phase_after_link, phase_after_end};
+ghost use Rattle.rt_walk.specs.Next.{found};
+ghost use Rattle.rt_core.specs.Links.{HasRoom, walk_to};
 
 use rt_base::limits::{MAX_CALLS, MAX_LOCKS, MAX_TASKS};
-use rt_base::{Call, Cpu, Kind, LockId, NoMemory, Reply, TaskState};
-use rt_model::{Hold, Phase};
+use rt_base::{Call, Cpu, Kind, LockId, NoMemory, Path, Reply, TaskId, TaskState};
+use rt_model::{Hold, Phase, Route};
+use rt_walk::{Next, after};
 use std::alloc::Global;
 use std::marker::Model;
 
@@ -182,6 +191,33 @@ impl Thread {
         self.phase = phase;
     }
 
+    /// Its walk, of this task, leaves a lock, and goes on at the lock's owner, or ends. `next` is what it
+    /// finds of the owner: who that is, whether it is blocked, and whether its key is right.
+    pub fn follow(&mut self, t: TaskId, l: LockId, next: Option<(TaskId, bool, bool)>)
+        requires lock { l.0 < length self.old.kinds }
+        requires room { HasRoom self.old.phase }
+        ensures { (owner : Option TaskId) (task : TaskPart) → next ≡ found owner task → self.new ≡ record self.old { phase = phase_after_link (Some l) owner task self.old.phase } }
+    {
+        let Phase::Walk(cursor, route) = &mut self.phase else {
+            return;
+        };
+        match follow_route(route, t, *cursor, l, next) {
+            Some(task) => *cursor = task,
+            None => self.end_walk(),
+        }
+    }
+
+    /// Its walk ends: a full one leaves it waiting, a short one ends its call.
+    pub fn end_walk(&mut self)
+        ensures { self.new ≡ record self.old { phase = phase_after_end self.old.phase } }
+    {
+        match self.phase {
+            Phase::Walk(_, Route::Full(_)) => self.phase = Phase::Wait,
+            Phase::Walk(_, Route::Short(_)) => self.phase = Phase::Start,
+            _ => {}
+        }
+    }
+
     /// The call that it is at has this answer, and it goes to the start of the next one.
     pub fn answer(&mut self, reply: Reply)
         requires { IsSome (call_of self.old) }
@@ -216,6 +252,49 @@ impl Thread {
         self.spinning -= spinning_hold(kind, &before);
         self.spinning += spinning_hold(kind, &after);
         self.holds[l.0 as usize] = after;
+    }
+}
+
+// Where a walk goes on that leaves this lock, with its route after that; `None` where it ends.
+fn follow_route(
+    route: &mut Route,
+    t: TaskId,
+    cursor: TaskId,
+    l: LockId,
+    next: Option<(TaskId, bool, bool)>,
+) -> Option<TaskId>
+    requires lock { l.0 < MAX_LOCKS }
+    requires room { HasRoom (Walk cursor route.old) }
+    ensures next { (owner : Option TaskId) (task : TaskPart) → next ≡ found owner task → walk_to route.new result ≡ goes_on (followed cursor l route.old) owner task }
+    ensures end { phase_of_walk route.new None ≡ phase_of_walk route.old None }
+{
+    let Route::Full(path) = route else {
+        return follow_old_keys(t, next);
+    };
+    path.push(cursor, l);
+    follow_path(path, t, next)
+}
+
+// Where a full walk goes on, whose path is cut before that task; `None` where it ends.
+fn follow_path(path: &mut Path, t: TaskId, next: Option<(TaskId, bool, bool)>) -> Option<TaskId>
+    ensures { (owner : Option TaskId) (task : TaskPart) → next ≡ found owner task → walk_to (Full path.new) result ≡ goes_on (Full path.old) owner task }
+{
+    match after(t, true, path, next) {
+        Next::To { task, keep } => {
+            path.cut(keep);
+            Some(task)
+        }
+        _ => None,
+    }
+}
+
+// Where a short walk goes on; `None` where it ends.
+fn follow_old_keys(t: TaskId, next: Option<(TaskId, bool, bool)>) -> Option<TaskId>
+    ensures { (answer : Reply) (owner : Option TaskId) (task : TaskPart) → next ≡ found owner task → walk_to (Short answer) result ≡ goes_on (Short answer) owner task }
+{
+    match after(t, false, &Path::empty(), next) {
+        Next::To { task, .. } => Some(task),
+        _ => None,
     }
 }
 

@@ -2,10 +2,10 @@
 ghost use Rattle.std.specs.Prelude.{◌≡◌, ◌<◌, length, None, Some, IfSome};
 ghost use Rattle.rt_model.specs.State.{lock_in};
 ghost use Rattle.rt_model.specs.StateAfter.{update, at_task};
-ghost use Rattle.rt_model.specs.steps.Task.{with_top, refreshed, blocked_on, leave_queue, lock_woken};
+ghost use Rattle.rt_model.specs.steps.Task.{with_top, with_own, refreshed, blocked_on, leave_queue, lock_woken};
 
 use crate::shared::Shared;
-use rt_base::{LockId, TaskId, TaskState};
+use rt_base::{LockId, Prio, TaskId, TaskState};
 
 impl Shared {
     /// A task, where one is named, keeps the key of a lock's top waiter, or nothing where nobody waits.
@@ -27,6 +27,14 @@ impl Shared {
         ensures { self.new ≡ record self.old { tasks = update self.old.tasks t.0 (with_top (Some l) None) } }
     {
         self.tasks[t.0 as usize].drop_top(l);
+    }
+
+    /// A task has another priority of its own.
+    pub fn set_own(&mut self, t: TaskId, prio: Prio)
+        requires { t.0 < length self.old.tasks }
+        ensures { self.new ≡ record self.old { tasks = update self.old.tasks t.0 (with_own prio) } }
+    {
+        self.tasks[t.0 as usize].set_own(prio);
     }
 
     /// A task waits for a lock in this state.

@@ -6,7 +6,7 @@ use Rattle.rt_model.specs.State.{Shared}
 use Rattle.rt_model.specs.steps.Task.{rest_of}
 use Rattle.rt_model.specs.StateAfter.{update}
 use Rattle.rt_model.proofs.Lists.{update-none}
-use Rattle.rt_core.proofs.Leaving.{left-at, other-leaves}
+use Rattle.rt_core.proofs.Leaving.{left-at, link-moved, other-leaves}
 use Rattle.rt_core.proofs.effect.make_on_lock.Goals as goal
 
 pub returns-in-Fast-clause-shared : goal.returns-in-Fast-clause-shared
@@ -26,8 +26,16 @@ returns-in-Again-clause-shared c =
 pub returns-in-Free-clause-shared : goal.returns-in-Free-clause-shared
 returns-in-Free-clause-shared c = c.free.ensures ∙ left-at c.args.shared.now c.args.thread.now c.args.e.now kinds.Free c.args.l c.in-Free.is c.requires.named
 
+pub returns-in-Walk-clause-shared : goal.returns-in-Walk-clause-shared
+returns-in-Walk-clause-shared c = c.walk.ensures.shared ∙ left-at c.args.shared.now c.args.thread.now c.args.e.now kinds.Walk c.args.l c.in-Walk.is c.requires.named
+
+pub returns-in-Walk-clause-thread : goal.returns-in-Walk-clause-thread
+returns-in-Walk-clause-thread c =
+    let left = c.walk.ensures.shared ∙ left-at c.args.shared.now c.args.thread.now c.args.e.now kinds.Walk c.args.l c.in-Walk.is c.requires.named in
+    link-moved c.args.shared.now c.walk.new.shared c.args.thread.now _ c.args.e.now c.args.l c.in-Walk.is c.requires.named left c.walk.ensures.thread
+
 pub returns-in_default : goal.returns-in_default
 returns-in_default c =
     let other = c.in_default in
-    let left = other-leaves c.args.shared.now c.args.thread.now c.args.e.now (record { fast = other.not-Fast; mark = other.not-Mark; take = other.not-Take; wait = other.not-Wait; again = other.not-Again; free = other.not-Free; give = other.not-Give }) in
+    let left = other-leaves c.args.shared.now c.args.thread.now c.args.e.now (record { fast = other.not-Fast; mark = other.not-Mark; take = other.not-Take; wait = other.not-Wait; again = other.not-Again; free = other.not-Free; give = other.not-Give; walk = other.not-Walk; walkend = c.requires.not_end; setprio = c.requires.not_set }) in
     record { shared = left.shared; thread = left.thread }

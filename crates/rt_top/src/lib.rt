@@ -21,6 +21,8 @@ mod test_replays;
 mod top;
 #[cfg(test)]
 mod waiter_tests;
+#[cfg(test)]
+mod walk_tests;
 mod words;
 #[cfg(test)]
 mod words_tests;

@@ -71,10 +71,10 @@ fn rows_of_two_tasks(rt: HostRuntime) -> Result<(), Fail> {
     compare_replays(&rt, alloc, &rows)
 }
 
-// What a script may have beside the lines that are played, and what isn't played yet.
+// What a script may have beside the lines that are played.
 #[test]
 fn which_scripts_are_played(rt: HostRuntime) -> Result<(), Fail> {
-    let rows: [(&[u8], &[u8], u8); 6] = [
+    let rows: [(&[u8], &[u8], u8); 5] = [
         // comments, empty lines, processors, lines that are mixed, and no line feed at the end
         (
             b"rtscript 1\n\n# two processors\ncpus 2\nlock m mutex\ntask a 50 1\ncall a lock m\n#\npick a\ntask b 60 0\ncall a unlock m\ngo",
@@ -87,20 +87,61 @@ fn which_scripts_are_played(rt: HostRuntime) -> Result<(), Fail> {
             b"rtjournal 1\nend done\ntask a 5 5 R R 0/0 end\n",
             0,
         ),
-        // a lock of another kind, two mutexes, other calls of a mutex, and a call on no lock
-        (b"rtscript 1\nlock s spin\ngo\n", NOT_PLAYED, 3),
+        // two mutexes, and no task
         (
             b"rtscript 1\nlock m mutex\nlock n mutex\ngo\n",
+            b"rtjournal 1\nend done\nlock m - 0\nlock n - 0\n",
+            0,
+        ),
+        // a call that tries
+        (
+            b"rtscript 1\ntask a 5 0\nlock m mutex\ncall a trylock m\ngo\n",
+            b"rtjournal 1\n1 a fast m -> got\nend done\ntask a 5 5 R R 1/1 end\nlock m a 0\n",
+            0,
+        ),
+        // a priority, and no lock
+        (
+            b"rtscript 1\ntask a 5 0\ncall a setprio a 7\ngo\n",
+            b"rtjournal 1\n1 a setprio a 7 a=7 -> done\nend done\ntask a 7 7 R R 1/1 end\n",
+            0,
+        ),
+    ];
+    compare_replays(&rt, rt.alloc(), &rows)
+}
+
+// What isn't played yet: locks of other kinds, whether a call names them or not, and other calls.
+#[test]
+fn which_scripts_are_not_played(rt: HostRuntime) -> Result<(), Fail> {
+    let rows: [(&[u8], &[u8], u8); 8] = [
+        (b"rtscript 1\nlock s spin\ngo\n", NOT_PLAYED, 3),
+        (
+            b"rtscript 1\nlock m mutex\nlock x rwlock\ngo\n",
             NOT_PLAYED,
             3,
         ),
         (
-            b"rtscript 1\ntask a 5 0\nlock m mutex\ncall a trylock m\ngo\n",
+            b"rtscript 1\nlock x rwsem\nlock m mutex\ngo\n",
+            NOT_PLAYED,
+            3,
+        ),
+        (b"rtscript 1\nlock l local\ngo\n", NOT_PLAYED, 3),
+        (
+            b"rtscript 1\ntask a 5 0\nlock m mutex\ncall a lockint m\ngo\n",
             NOT_PLAYED,
             3,
         ),
         (
             b"rtscript 1\ntask a 5 0\ncall a schedule\ngo\n",
+            NOT_PLAYED,
+            3,
+        ),
+        (
+            b"rtscript 1\ntask a 5 0\ntask b 5 0\ncall a setprio b 5\ncall b signal a\ngo\n",
+            NOT_PLAYED,
+            3,
+        ),
+        (
+            b"rtscript 1\ntask a 5 0\nlock m mutex\ncall a lock m\ncall a unlock m\ncall a move 0\ngo\n",
             NOT_PLAYED,
             3,
         ),

@@ -15,7 +15,7 @@ use Rattle.rt_model.specs.laws.Queued.{present_lock}
 use Rattle.rt_model.specs.laws.Walks.{IsWalkOf}
 use Rattle.rt_model.proofs.Calling.{served_call}
 use Rattle.rt_model.proofs.Waiters.{WaitsFor-blocked}
-use Rattle.rt_core.specs.Walking.{IsOnChain, FindsCursor}
+use Rattle.rt_core.specs.Walking.{FindsCursor}
 
 module _ (s : State) (made : ℕ) (t : TaskId) (lawful : IsLawful s made) where
   -- the call is served

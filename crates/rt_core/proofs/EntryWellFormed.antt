@@ -1,7 +1,6 @@
 -- The entry of a next event is well formed for the script that the state is of.
 use Rattle.std.proofs.Common.{◌≡◌, ℕ, ◌<◌, ◌≤◌, ◌^◌, length, refl, sym, subst, arith, Option, Some, None, IfSome}
 use Rattle.rt_base.specs.Script.{Script}
-use Rattle.rt_base.specs.declared.id.LockId.{LockId}
 use Rattle.rt_base.specs.declared.id.TaskId.{TaskId}
 use Rattle.rt_model.specs.declared.event.Event.{Event}
 use Rattle.rt_model.specs.State.{State}
@@ -15,7 +14,7 @@ use Rattle.rt_model.proofs.events.Release.{is_free, is_give}
 use Rattle.rt_model.proofs.NextEvents.{IsNext, by_own, by_acquire, by_wait, by_walk, by_setprio, by_release}
 use Rattle.rt_model.proofs.Named.{within}
 use Rattle.rt_events.specs.Entry.{entry, told_path}
-use Rattle.rt_events.specs.WellFormed.{IsTaskIn, IsLockIn, HasLock, HasOther, HasWoken, HasValue, HasPath, IsWellFormed}
+use Rattle.rt_events.specs.WellFormed.{IsTaskIn, HasLock, HasOther, HasWoken, HasValue, HasPath, IsWellFormed}
 
 -- the event's fields are those of its kind
 record HasFields (script : Script) (number : ℕ) (e : Event) : Type 0 where

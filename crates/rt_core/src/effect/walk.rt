@@ -10,6 +10,7 @@ ghost use Rattle.rt_model.specs.events.Walk.{phase_after_link};
 ghost use Rattle.rt_walk.specs.Next.{found};
 ghost use Rattle.rt_core.specs.Fits.{IsLink};
 
+use crate::next::is_old;
 use crate::shared::Shared;
 use crate::thread::Thread;
 use rt_base::{LockId, TaskId};
@@ -54,8 +55,5 @@ fn found(shared: &Shared, owner: Option<TaskId>) -> Option<(TaskId, bool, bool)>
 pub fn has_old_key(task: &TaskCell) -> bool
     ensures { result ≡ has_old_key task.now }
 {
-    match task.blocked_at() {
-        Some((_, key)) => key != task.effective(),
-        None => false,
-    }
+    is_old(task, task.effective())
 }

@@ -113,6 +113,32 @@ fn two_wait_and_nobody_gets_on(rt: HostRuntime) -> Result<(), Fail> {
     reports(&rt, rt.alloc(), &script, &core, lines.as_slice())
 }
 
+#[test]
+fn a_walk_goes_along_a_chain(rt: HostRuntime) -> Result<(), Fail> {
+    let text = b"rtscript 1\ntask a 90 0\ntask b 50 0\ntask c 10 0\nlock m mutex\nlock n mutex\n\
+        call a lock m\ncall b lock n\ncall b lock m\ncall c lock n\ngo\n";
+    let script = read_script(rt.alloc(), text)?;
+    assert!(rt; Core::can(&script));
+    let mut core = Core::new(rt.alloc(), &script)?;
+    makes(&rt, &script, &mut core, 0, A, FAST)?;
+    makes(&rt, &script, &mut core, 1, B, FAST)?;
+    makes(&rt, &script, &mut core, 2, B, MARK)?;
+    let wait = (EventKind::Wait, None, Some((A, 50)), None);
+    makes(&rt, &script, &mut core, 3, B, wait)?;
+    makes(&rt, &script, &mut core, 4, C, MARK)?;
+    let wait = (EventKind::Wait, None, Some((B, 10)), None);
+    makes(&rt, &script, &mut core, 5, C, wait)?;
+    c_walks(&rt, &core);
+    let lines = [
+        "task a 90 50 R R 1/1 end\n",
+        "task b 50 10 D R 1/2 lock m 50\n",
+        "task c 10 10 D R 0/1 walk b\n",
+        "lock m a 1 b:50\n",
+        "lock n b 1 c:10\n",
+    ];
+    reports(&rt, rt.alloc(), &script, &core, lines.as_slice())
+}
+
 // Makes the task's next event where so many are made, and compares it.
 fn makes(
     rt: &impl Abort,
@@ -181,6 +207,18 @@ fn b_is_woken(rt: &impl Abort, core: &Core) {
     assert_eq!(rt; core.lowest_enabled(), Some(B));
 }
 
+// A walk stands at the second task, and nobody else has a next event.
+fn c_walks(rt: &impl Abort, core: &Core) {
+    assert!(rt; core.tasks() == 3);
+    assert_eq!(rt; core.note(C), Note::Walk(B));
+    assert_eq!(rt; core.lowest_walking(), Some(C));
+    assert_eq!(rt; core.lowest_enabled(), Some(C));
+    for t in [A, B, C] {
+        assert_eq!(rt; core.is_walking(t), t == C);
+        assert_eq!(rt; core.is_enabled(t), t == C);
+    }
+}
+
 // Two wait for a task that has no more calls.
 fn is_stuck(rt: &impl Abort, core: &Core) {
     assert!(rt; core.tasks() == 3);
@@ -212,7 +250,7 @@ fn reports(
     Ok(())
 }
 
-// Which scripts the machine plays: one mutex at most, which is only taken and released.
+// Which scripts the machine plays: mutexes that are taken and released, and priorities that are set.
 #[test]
 fn scripts_that_can_be_played(rt: HostRuntime) -> Result<(), Fail> {
     for (lines, can) in [
@@ -224,8 +262,11 @@ fn scripts_that_can_be_played(rt: HostRuntime) -> Result<(), Fail> {
         ),
         ("lock s spin\n", false),
         ("lock l local\n", false),
-        ("lock m mutex\nlock n mutex\n", false),
-        ("task a 5 0\nlock m mutex\ncall a trylock m\n", false),
+        ("lock m mutex\nlock n mutex\n", true),
+        (
+            "task a 5 0\nlock m mutex\ncall a trylock m\ncall a setprio a 7\n",
+            true,
+        ),
         (
             "task a 5 0\nlock m mutex\ncall a lock m\ncall a lockint m\n",
             false,

@@ -9,7 +9,3 @@ has word t = nat_eq (bit_at word t) 1
 -- it is the lowest one in the set
 abbrev pub IsLowestIn : ℕ → ℕ → Type 0
 IsLowestIn word t = (has word t ≡ true) × ((u : ℕ) → u < t → has word u ≡ false)
-
--- the set is that of the tasks that pass the test
-abbrev pub IsSetOf : (ℕ → Bool) → ℕ → Type 0
-IsSetOf test word = (t : ℕ) → has word t ≡ test t

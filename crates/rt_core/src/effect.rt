@@ -63,7 +63,7 @@ fn make_on_lock(shared: &mut Shared, thread: &mut Thread, e: &Event, l: LockId)
         EventKind::Walk => walk::walk(shared, thread, e, l),
         EventKind::Free => release::free(shared, l),
         EventKind::Give => release::give(shared, e, l, thread.kind_of(l)),
-        // A call that finds its lock busy changes nothing but by its answer.
+        // `busy` and `own` leave nothing but their answers, and the other kinds don't come yet.
         _ => {}
     }
 }

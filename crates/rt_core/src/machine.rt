@@ -2,7 +2,7 @@ ghost use Rattle.std.specs.Prelude.{◌≡◌, ◌↔◌, ◌<◌, ◌≤◌, �
 ghost use Rattle.rt_base.specs.Script.{Script};
 ghost use Rattle.rt_model.specs.declared.obj.Obj.{Obj};
 ghost use Rattle.rt_model.specs.Parts.{call_of, effective_of};
-ghost use Rattle.rt_model.specs.Stage.{HasOnlyMutexes, IsServed};
+ghost use Rattle.rt_model.specs.Stage.{IsPlayable, IsServed};
 ghost use Rattle.rt_model.specs.State.{State, start, shared, object, owner_part, task_part, thread_part};
 ghost use Rattle.rt_model.specs.NextEvent.{next_event};
 ghost use Rattle.rt_model.specs.StateAfter.{state_after};
@@ -21,7 +21,7 @@ use crate::effect::make;
 use crate::enabled::Enabled;
 use crate::next::{boost_within, event_of, next_of};
 use crate::note::Note;
-use crate::playable::has_only_mutexes;
+use crate::playable::is_playable;
 use crate::report::{write_lock_line, write_task_line};
 use crate::shared::Shared;
 use crate::start::threads;
@@ -63,14 +63,14 @@ impl Core {
     /// Whether the machine plays a script, so far one whose locks are all mutexes, and whose tasks take and
     /// release them and set priorities.
     pub fn can(script: &Script) -> bool
-        ensures { IsTrue result ↔ HasOnlyMutexes script.now }
+        ensures { IsTrue result ↔ IsPlayable script.now }
     {
-        has_only_mutexes(script)
+        is_playable(script)
     }
 
     /// The machine in the script's start state: no holder, no waiter, every task running.
     pub fn new(alloc: Global, script: &Script) -> Result<Core, NoMemory>
-        requires { HasOnlyMutexes script.now }
+        requires { IsPlayable script.now }
         ensures start { IfOk result (λ core. core ≡ record { state = start script.now; made = 0 }) }
         ensures script { IfOk result (λ core. IsOf script.now core.state) }
         ensures lawful { IfOk result (λ core. IsLawful core.state core.made) }

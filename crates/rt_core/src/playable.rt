@@ -1,7 +1,7 @@
 // Which scripts the machine plays.
 ghost use Rattle.std.specs.Prelude.{◌≡◌, ◌↔◌, All, IsTrue};
 ghost use Rattle.rt_base.specs.Script.{TaskLine, LockLine};
-ghost use Rattle.rt_model.specs.Stage.{IsPlayed, HasOnlyMutexes};
+ghost use Rattle.rt_model.specs.Stage.{IsPlayed, IsPlayable};
 ghost use Rattle.rt_base.specs.declared.kind.Kind.TheVariants.{Mutex};
 
 use rt_base::{Call, Kind, LockId, TaskId};
@@ -61,8 +61,8 @@ fn calls_played(script: &Script) -> bool
 }
 
 /// Whether the script's locks are all mutexes, and its tasks take and release them and set priorities.
-pub fn has_only_mutexes(script: &Script) -> bool
-    ensures { IsTrue result ↔ HasOnlyMutexes script.now }
+pub fn is_playable(script: &Script) -> bool
+    ensures { IsTrue result ↔ IsPlayable script.now }
 {
     has_mutexes(script) && calls_played(script)
 }

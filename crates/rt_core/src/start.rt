@@ -1,7 +1,7 @@
 // The lists that a core begins with.
 ghost use Rattle.std.specs.Prelude.{◌≡◌, length, map, replicate, IfOk};
 ghost use Rattle.rt_base.specs.Script.{TaskLine};
-ghost use Rattle.rt_model.specs.Stage.{HasOnlyMutexes};
+ghost use Rattle.rt_model.specs.Stage.{IsPlayable};
 ghost use Rattle.rt_model.specs.State.{free_lock, fresh_task, fresh_thread, kinds_in};
 
 use crate::thread::Thread;
@@ -36,7 +36,7 @@ pub fn task_cells(alloc: Global, script: &Script) -> Result<Vec<TaskCell>, NoMem
 
 /// A thread that has made none of its calls for each task of the script.
 pub fn threads(alloc: Global, script: &Script) -> Result<Vec<Thread>, NoMemory>
-    requires { HasOnlyMutexes script.now }
+    requires { IsPlayable script.now }
     ensures { IfOk result (λ threads. threads.items ≡ map (λ (line : TaskLine). fresh_thread (kinds_in script.now) line.calls line.cpu) script.now.tasks) }
 {
     let kinds = kinds_in(alloc, script)?;

@@ -1,9 +1,9 @@
 ghost use Rattle.std.specs.Prelude.{◌≡◌, ◌<◌, ◌≤◌, ◌+◌, ◌^◌, length, true, None, Some, IfOk, IfSome, IsSome};
 ghost use Rattle.rt_model.specs.State.{free_lock};
-ghost use Rattle.rt_model.specs.Rows.{top_waiter, top_key, top_task, row_of, queued_key, without, may_take};
+ghost use Rattle.rt_model.specs.Rows.{top_waiter, top_key, top_task, top_changed, row_of, queued_key, without, may_take};
 ghost use Rattle.rt_model.specs.steps.Lock.{queued, requeued, left_by, taken_by, given_up};
 ghost use Rattle.rt_locks.specs.OwnerCell.{HasPriorities};
-ghost use Rattle.rt_locks.specs.Top.{is_top, top_changed};
+ghost use Rattle.rt_locks.specs.Top.{is_top};
 
 use crate::reason::reason_among;
 use crate::top::{first_other, is_changed, is_first, key_in, task_of_row, top_with};

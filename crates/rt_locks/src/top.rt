@@ -1,8 +1,8 @@
 ghost use Rattle.std.specs.Prelude.{◌≡◌, ◌≤◌, not, option_map, IfSome, AllPairs};
 ghost use Rattle.rt_model.specs.laws.Rows.{IsAhead};
-ghost use Rattle.rt_model.specs.Rows.{task_of, top_waiter, insert_row, without};
+ghost use Rattle.rt_model.specs.Rows.{same_top, task_of, top_waiter, insert_row, without};
 ghost use Rattle.rt_locks.specs.OwnerCell.{HasTickets};
-ghost use Rattle.rt_locks.specs.Top.{is_first, is_same};
+ghost use Rattle.rt_locks.specs.Top.{is_first};
 
 use rt_base::limits::MAX_PRIO;
 use rt_base::{Prio, TaskId};
@@ -41,7 +41,7 @@ pub fn is_first(top: Option<Row>, t: TaskId) -> bool
 
 // Whether another row is the top one now.
 pub fn is_changed(old: Option<Row>, new: Option<Row>) -> bool
-    ensures { result ≡ not (is_same old new) }
+    ensures { result ≡ not (same_top old new) }
 {
     old != new
 }

@@ -23,7 +23,7 @@ use Rattle.rt_model.specs.declared.row.Row.{Row}
 use Rattle.rt_model.specs.Parts.{OwnerPart, TaskPart, ThreadPart, effective_of, call_of, hold_of}
 use Rattle.rt_model.specs.Rows.{top_waiter, top_key, task_of, queued_key}
 use Rattle.rt_model.specs.State.{start, free_lock, fresh_task, fresh_thread, no_readers, kinds_in, owner_part, task_part, thread_part}
-use Rattle.rt_model.specs.Stage.{IsPlayed, HasOnlyMutexes, IsServed, IsStaged, IsPhaseOf}
+use Rattle.rt_model.specs.Stage.{IsPlayed, IsPlayable, IsServed, IsStaged, IsPhaseOf}
 use Rattle.rt_model.specs.laws.Shape.{IsShaped, IsOf}
 use Rattle.rt_model.specs.laws.Rows.{IsQueue, RowsLaw, key_at}
 use Rattle.rt_model.specs.laws.KeptTops.{kept_of}
@@ -51,7 +51,7 @@ served_in script (calls.SetPrio t prio) is played = is
 served_in script _ is played = absurd played
 
 -- the calls of each task are served
-pub served_calls : (script : Script) → IsScript script → HasOnlyMutexes script → All (λ (line : TaskLine). All (IsServed (length script.tasks) (length script.locks)) line.calls) script.tasks
+pub served_calls : (script : Script) → IsScript script → IsPlayable script → All (λ (line : TaskLine). All (IsServed (length script.tasks) (length script.locks)) line.calls) script.tasks
 served_calls script valid mutexes =
     let Served : Call → Type 0 = IsServed (length script.tasks) (length script.locks) in
     All-both (IsTaskOf script) (λ (line : TaskLine). All IsPlayed line.calls) (λ (line : TaskLine). All Served line.calls)
@@ -96,7 +96,7 @@ IsShaped-start script valid =
     }
 
 -- it goes as far as the stage goes
-pub IsStaged-start : (script : Script) → IsScript script → HasOnlyMutexes script → IsStaged (start script)
+pub IsStaged-start : (script : Script) → IsScript script → IsPlayable script → IsStaged (start script)
 IsStaged-start script valid mutexes =
     let n = length script.locks in
     let fresh : TaskLine → ThreadPart = λ line. fresh_thread (kinds_in script) line.calls line.cpu in
@@ -163,7 +163,7 @@ module _ (script : Script) where
       (All-map (λ (task : TaskPart). task.own ≤ MAX_PRIO) (λ (line : TaskLine). fresh_task (length script.locks) line.own) script.tasks (λ i d lt. (valid.each_task i d lt).own)) (omega arith)
 
 -- the start state is lawful
-pub IsLawful-start : (script : Script) → IsScript script → HasOnlyMutexes script → IsLawful (start script) 0
+pub IsLawful-start : (script : Script) → IsScript script → IsPlayable script → IsLawful (start script) 0
 IsLawful-start script valid mutexes = record {
   shape = IsShaped-start script valid;
   stage = IsStaged-start script valid mutexes;

@@ -24,7 +24,7 @@ IsPlayed (SetPrio t prio) = Unit {0}
 IsPlayed _ = ⊥
 
 -- the script's locks are all mutexes, and its tasks take and release them and set priorities
-pub record HasOnlyMutexes (script : Script) : Type 0 where
+pub record IsPlayable (script : Script) : Type 0 where
   pub locks : All (λ (l : LockLine). l.kind ≡ Mutex) script.locks
   pub calls : All (λ (t : TaskLine). All IsPlayed t.calls) script.tasks
 

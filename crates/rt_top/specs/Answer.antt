@@ -5,7 +5,7 @@ use Rattle.rt_base.specs.declared.ended.Ended.TheVariants as ends
 use Rattle.rt_base.specs.Outside.{Rises, IsAtEnd, Appends, AppendsPrefix}
 use Rattle.rt_base.specs.Script.{Script, budget_of}
 use Rattle.rt_model.specs.State.{start}
-use Rattle.rt_model.specs.Stage.{HasOnlyMutexes}
+use Rattle.rt_model.specs.Stage.{IsPlayable}
 use Rattle.rt_model.specs.Run.{IsRun, after, ended_of}
 use Rattle.rt_model.specs.Order.{replayed}
 use Rattle.rt_model.specs.laws.Sound.{IsSound}
@@ -69,7 +69,7 @@ Replays _ script turns output = ⊥
 -- the text is no script, or one that the machine doesn't play yet
 abbrev pub IsNotPlayed : Result Script FaultAt → Type 0
 IsNotPlayed (Err fault) = Unit {0}
-IsNotPlayed (Ok script) = HasOnlyMutexes script → ⊥
+IsNotPlayed (Ok script) = IsPlayable script → ⊥
 
 -- the answer that a script isn't played for that fault, and its line
 abbrev pub AnswersBadScript : Status → FaultAt → Output → Type 0
@@ -81,7 +81,7 @@ AnswersBadScript _ fault output = ⊥
 abbrev pub AnswersInput : Options → Status → List ℕ → Output → Type 0
 AnswersInput options statuses.BadScript input output = IsNotPlayed (script_of input) × IsTold (bad_script_line (bad_script_fault (script_of input))) output
 AnswersInput options statuses.NoMemory input output = Unit {0}
-AnswersInput options status input output = (script : Script) × (script_of input ≡ Ok script) × HasOnlyMutexes script × Replays status script (turns_of options script) output
+AnswersInput options status input output = (script : Script) × (script_of input ≡ Ok script) × IsPlayable script × Replays status script (turns_of options script) output
 
 -- the input was read to its end, within the limit and without a fault
 pub record IsWhole (bytes : List ℕ) (input : Input) : Type 0 where

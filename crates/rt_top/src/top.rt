@@ -1,7 +1,7 @@
 ghost use Rattle.std.specs.Prelude.{◌≡◌, ◌≢◌, ◌↔◌, ◌≤◌, ℕ, List, map, length, string_bytes, Result, Ok, Err};
 ghost use Rattle.rt_base.specs.Outside.{Takes};
 ghost use Rattle.rt_base.specs.Script.{IsScript};
-ghost use Rattle.rt_model.specs.Stage.{HasOnlyMutexes};
+ghost use Rattle.rt_model.specs.Stage.{IsPlayable};
 ghost use Rattle.rt_script.specs.Grammar.{FaultAt};
 ghost use Rattle.rt_top.specs.Words.{IsAccepted, options_of};
 ghost use Rattle.rt_top.specs.Answer.{Answers, AnswersReplay, AnswersInput, Replays, AnswersBadScript, turns_of};
@@ -146,7 +146,7 @@ fn turns(options: Options, script: &Script) -> u64
 // Replays a script. All memory is taken before the first byte is written.
 fn replay_script<K: Sink>(alloc: Global, options: Options, script: &Script, out: &mut K) -> Status
     requires valid { IsScript script.now }
-    requires mutexes { HasOnlyMutexes script.now }
+    requires mutexes { IsPlayable script.now }
     ensures outcome { Replays result script.now (turns_of options script.now) (record { held_before = K.held out.old; held_after = K.held out.new; faults_before = K.faults out.old; faults_after = K.faults out.new }) }
     ensures unwritten { result ≡ Status.NoMemory → out.new ≡ out.old }
     ensures write_count { K.faults out.old ≤ K.faults out.new }

@@ -9,7 +9,7 @@
 //! | 1 | U isn't blocked: the walk ends. | W U | the caller |
 //! | 2 | U is queued with an old key: it is queued anew, with its effective priority and the next ticket. | U L | [`walk_step`] |
 //! | 3 | L's top row is another one now, and L has an owner: O keeps the key of the new one, and so may have another effective priority. | L O | [`walk_step`] |
-//! | 4 | L's top row is another one now, and L has no owner: its task is woken. | L | the caller, by [`Step::new_top`] |
+//! | 4 | L's top row is another one now, and L has no owner: its task is woken. | L | the caller; [`Step::new_top`] tells whom |
 //! | 5 | The walk is full: its path has the link from U to L. | W U L | the caller |
 //! | 6 | L has no owner, or O isn't blocked: the walk ends. | L O | [`after`] |
 //! | 7 | The walk is full, and O is a task of its path: the walk ends, or the path is cut where O's key is old. | W O | [`after`] |

@@ -1,13 +1,15 @@
 -- In a lawful state every priority is right.
-use Rattle.std.proofs.Common.{◌≡◌, ℕ, suc, min, Bool, true, false, cond, List, [], ◌∷◌, ◌++◌, length, map, refl, sym, ap, ◌∙◌, Option, Some, None, unwrap_or, arith}
-use Rattle.std.specs.Prelude.{slice_get}
+use Rattle.std.proofs.Common.{◌≡◌, ℕ, suc, min, Bool, true, false, cond, List, [], ◌∷◌, ◌++◌, length, map, refl, sym, ap, subst, ◌∙◌, Option, Some, None, IfSome, unwrap_or, arith}
+use Rattle.std.specs.Prelude.{slice_get, nat_eq}
+use Rattle.rt_base.specs.declared.id.LockId.{LockId}
 use Rattle.rt_base.specs.declared.id.TaskId.{TaskId}
 use Rattle.rt_model.specs.declared.row.Row.{Row}
-use Rattle.rt_model.specs.Parts.{OwnerPart, TaskPart, least, keys_in}
+use Rattle.rt_model.specs.Parts.{OwnerPart, TaskPart, least, effective_of, keys_in}
 use Rattle.rt_model.specs.Rows.{top_key}
 use Rattle.rt_model.specs.State.{State, task_part}
 use Rattle.rt_model.specs.laws.Lawful.{IsLawful}
 use Rattle.rt_model.specs.laws.Owners.{owned_by}
+use Rattle.rt_model.specs.laws.Rows.{key_at}
 use Rattle.rt_model.specs.laws.Priorities.{waiting_keys, PriorityLaw}
 use Rattle.rt_model.proofs.Lists.{All-default}
 use Rattle.rt_model.proofs.Queues.{key_with, top_key-cons}
@@ -57,9 +59,20 @@ least-kept t own (top ∷ kept) (lock ∷ locks) d same pairs =
     ∙ (least-lock (least own (waiting_keys t locks)) (owned_by lock.owner t) lock.rows
     ∙ sym (least-append own (cond (owned_by lock.owner t) (keys_of lock.rows) []) (waiting_keys t locks))))
 
+-- ---- the row of a task has the key with which it is blocked
+
+row_key : (blocked : Option (LockId × ℕ)) (l : LockId) (prio : ℕ) → IfSome blocked (λ at. at.1 ≡ prio) → IfSome (key_at blocked l) (λ key. key ≡ prio)
+row_key None l prio is = tt
+row_key (Some at) l prio is = by_test (nat_eq at.0.0 l.0)
+  where
+    by_test : (b : Bool) → IfSome (cond b (Some at.1) None) (λ key. key ≡ prio)
+    by_test true = is
+    by_test false = tt
+
 -- every priority is right
 pub priority-law : (s : State) (made : ℕ) → IsLawful s made → PriorityLaw s
 priority-law s made lawful = λ t lt. record {
   effective = least-kept t (task_part s t).own (task_part s t).kept s.locks _ (All-default (λ (task : TaskPart). length task.kept ≡ length s.locks) s.tasks t.0 _ lawful.shape.kept lt) (λ i. lawful.kept (record { 0 = i }) t);
   key = lawful.keys t;
+  row = λ unnamed l. subst (λ (key : Option ℕ). IfSome key (λ k. k ≡ effective_of (task_part s t))) (sym (lawful.rows.rows l t)) (row_key (task_part s t).blocked l (effective_of (task_part s t)) (lawful.keys t unnamed));
 }

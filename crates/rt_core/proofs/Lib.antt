@@ -10,6 +10,7 @@ pub mod Holds
 pub mod Starting
 pub mod Leaving
 pub mod Linking
+pub mod Boosts
 pub mod Choosing
 pub mod Applying
 pub mod EntryWellFormed

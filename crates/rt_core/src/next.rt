@@ -18,7 +18,7 @@ mod walk;
 
 use crate::next::acquire::{acquire_event, try_event};
 pub use crate::next::chosen::{Chosen, event_of};
-pub use crate::next::event::{boost_within, is_old};
+pub use crate::next::event::is_old;
 pub use crate::next::own::own_answer;
 use crate::next::own::own_event;
 use crate::next::release::release_event;

@@ -1,12 +1,11 @@
 // Words of which the choice of an event is made.
-ghost use Rattle.std.specs.Prelude.{◌≡◌, ◌≤◌, Some, IfSome};
+ghost use Rattle.std.specs.Prelude.{◌≡◌, Some};
 ghost use Rattle.rt_model.specs.Choice.{bare, boost_of};
 ghost use Rattle.rt_model.specs.steps.Chain.{is_old};
 
 use crate::next::chosen::Chosen;
-use rt_base::limits::MAX_PRIO;
 use rt_base::{LockId, Prio, TaskId};
-use rt_model::{Event, EventKind};
+use rt_model::EventKind;
 use rt_tasks::TaskCell;
 
 /// An event that names nothing but its task.
@@ -54,16 +53,5 @@ pub fn is_old(task: &TaskCell, prio: Prio) -> bool
     match task.blocked_at() {
         Some((_, key)) => key != prio,
         None => false,
-    }
-}
-
-/// Changes nothing; its clause says that the new priority of an event's boost is one.
-pub fn boost_within(event: &Option<Event>)
-    ensures { IfSome event.now (λ e. IfSome e.boost (λ boost. boost.1 ≤ MAX_PRIO)) }
-{
-    if let Some(e) = event
-        && let Some((_, prio)) = e.boost
-    {
-        let _number = prio.get();
     }
 }

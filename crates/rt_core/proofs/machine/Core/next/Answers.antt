@@ -1,4 +1,4 @@
-use Rattle.std.proofs.Common.{◌≡◌, ◌<◌, ◌≤◌, ◌^◌, ◌∙◌, ℕ, ap, sym, subst, length, Option, Some, None, IfSome}
+use Rattle.std.proofs.Common.{◌≡◌, ◌<◌, ◌^◌, ◌∙◌, ℕ, ap, sym, subst, length, Option, Some, None, IfSome}
 use Rattle.rt_base.specs.Script.{Script}
 use Rattle.rt_base.specs.declared.id.TaskId.{TaskId}
 use Rattle.rt_model.specs.declared.event.Event.{Event}
@@ -17,8 +17,9 @@ use Rattle.rt_events.specs.WellFormed.{IsWellFormed}
 use Rattle.rt_core.specs.Core.{Made, with_threads}
 use Rattle.rt_core.specs.Walking.{FindsCursor}
 use Rattle.rt_core.proofs.Choosing.{served-here, cursor-here}
+use Rattle.rt_core.proofs.Boosts.{boost-within}
 use Rattle.rt_core.proofs.EntryWellFormed.{well_formed}
-use Rattle.rt_core.proofs.machine.Core.next.Goals.{After-boost_within}
+use Rattle.rt_core.proofs.machine.Core.next.Goals.{After-event_of}
 use Rattle.rt_core.proofs.machine.Core.next.Goals as goal
 
 own_task : (s : State) (t : TaskId) (e : Option Event) → e ≡ next_event s t → IfSome e (λ (e : Event). e.task ≡ t)
@@ -33,10 +34,10 @@ stays_next : (s : State) (t : TaskId) (e : Option Event) → e ≡ next_event s 
 stays_next s t None is = tt
 stays_next s t (Some e) is = λ other agree. local s other t e (sym is) agree
 
-tells : (s : State) (made : ℕ) (t : TaskId) (e : Option Event) → IsLawful s made → e ≡ next_event s t → IfSome e (λ (e : Event). IfSome e.boost (λ b. b.1 ≤ 139))
+tells : (s : State) (made : ℕ) (t : TaskId) (e : Option Event) → IsLawful s made → e ≡ next_event s t
     → IfSome e (λ e. (script : Script) (number : ℕ) → IsOf script s → number < 2 ^ 64 → IsWellFormed script (entry number e))
-tells s made t None lawful is prio = tt
-tells s made t (Some e) lawful is prio = λ script number of few. well_formed script number s made t e of few lawful (choice s t e lawful.stage lawful.phases (sym is)) prio
+tells s made t None lawful is = tt
+tells s made t (Some e) lawful is = λ script number of few. let next = choice s t e lawful.stage lawful.phases (sym is) in well_formed script number s made t e of few lawful next (boost-within s made t e lawful next)
 
 pub next_of-requires-clause-served : goal.next_of-requires-clause-served
 next_of-requires-clause-served c =
@@ -51,23 +52,23 @@ next_of-requires-clause-cursor c =
     subst (λ (th : ThreadPart). FindsCursor c.self.inside.shared th.phase) at (cursor-here s c.self.inside.made c.args.t c.self.invariant.0)
 
 -- the event that was chosen
-event : (c : After-boost_within) → c.event_of-event.result ≡ next_event c.args.self.now.state c.args.t
-event c = c.event_of-event.ensures ∙ (c.next_of.ensures ∙ (λ i. next_of (shared (c.self.view_is i).state) c.args.t (c.thread.ensures.part i)))
+event : (c : After-event_of) → c.event_of.result ≡ next_event c.args.self.now.state c.args.t
+event c = c.event_of.ensures ∙ (c.next_of.ensures ∙ (λ i. next_of (shared (c.self.view_is i).state) c.args.t (c.thread.ensures.part i)))
 
 pub returns-clause-event : goal.returns-clause-event
-returns-clause-event c = event (goal.at.returns-clause-event c).After-boost_within
+returns-clause-event c = event (goal.at.returns-clause-event c).After-event_of
 
 pub returns-clause-task : goal.returns-clause-task
-returns-clause-task c = own_task c.args.self.now.state c.args.t c.event_of-event.result (event (goal.at.returns-clause-task c).After-boost_within)
+returns-clause-task c = own_task c.args.self.now.state c.args.t c.event_of.result (event (goal.at.returns-clause-task c).After-event_of)
 
 pub returns-clause-within : goal.returns-clause-within
-returns-clause-within c = names_within c.args.self.now.state c.args.self.now.made c.args.t c.event_of-event.result c.thread.ensures.lawful (event (goal.at.returns-clause-within c).After-boost_within)
+returns-clause-within c = names_within c.args.self.now.state c.args.self.now.made c.args.t c.event_of.result c.thread.ensures.lawful (event (goal.at.returns-clause-within c).After-event_of)
 
 pub returns-clause-told : goal.returns-clause-told
-returns-clause-told c = tells c.args.self.now.state c.args.self.now.made c.args.t c.event_of-event.result c.thread.ensures.lawful (event (goal.at.returns-clause-told c).After-boost_within) c.boost_within.ensures
+returns-clause-told c = tells c.args.self.now.state c.args.self.now.made c.args.t c.event_of.result c.thread.ensures.lawful (event (goal.at.returns-clause-told c).After-event_of)
 
 pub returns-clause-local : goal.returns-clause-local
-returns-clause-local c = stays_next c.args.self.now.state c.args.t c.event_of-event.result (event (goal.at.returns-clause-local c).After-boost_within)
+returns-clause-local c = stays_next c.args.self.now.state c.args.t c.event_of.result (event (goal.at.returns-clause-local c).After-event_of)
 
 pub returns-clause-none : goal.returns-clause-none
-returns-clause-none c = λ is s thread task. none c.args.self.now.state s c.args.t (sym (event (goal.at.returns-clause-none c).After-boost_within) ∙ is) thread task
+returns-clause-none c = λ is s thread task. none c.args.self.now.state s c.args.t (sym (event (goal.at.returns-clause-none c).After-event_of) ∙ is) thread task

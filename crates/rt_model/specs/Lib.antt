@@ -6,6 +6,7 @@ pub mod Rows
 pub mod steps
 pub mod Effect
 pub mod Choice
+pub mod Path
 pub mod events
 pub mod Rules
 pub mod StateAfter

@@ -11,18 +11,21 @@ use Rattle.rt_model.specs.declared.phase.Phase.TheVariants as phases
 use Rattle.rt_model.specs.Parts.{ThreadPart, kind_of, call_of}
 use Rattle.rt_model.specs.State.{State, Shared, shared, lock_in, task_in, task_at, thread_part}
 use Rattle.rt_model.specs.Choice.{called_lock}
+use Rattle.rt_model.specs.Path.{first_broken}
 use Rattle.rt_model.specs.events.Acquire.{acquire_event, try_event}
 use Rattle.rt_model.specs.events.Wait.{slow_event, queued_event}
 use Rattle.rt_model.specs.events.Release.{release_event}
-use Rattle.rt_model.specs.events.Walk.{cursor_event}
-use Rattle.rt_model.specs.events.Wakeups.{setprio_event}
+use Rattle.rt_model.specs.events.Walk.{cursor_event, confirmed_event}
+use Rattle.rt_model.specs.events.Wakeups.{signal_event, setprio_event}
 use Rattle.rt_model.specs.events.Own.{own_answer, own_event}
 
 -- a call's first event, where it isn't answered by the thread alone; so far for the calls that are played
 abbrev pub first_event : Shared → TaskId → ThreadPart → Call → Option Event
 first_event sh t thread (calls.Lock l) = Some (acquire_event t l (lock_in sh l))
+first_event sh t thread (calls.LockInt l) = Some (acquire_event t l (lock_in sh l))
 first_event sh t thread (calls.TryLock l) = Some (try_event t l (kind_of thread l) (lock_in sh l) (task_in sh t))
 first_event sh t thread (calls.Unlock l) = Some (release_event t l (lock_in sh l) (task_in sh t))
+first_event sh t thread (calls.Signal u) = Some (signal_event t u (task_in sh u))
 first_event sh t thread (calls.SetPrio u prio) = Some (setprio_event t u prio (task_in sh u))
 first_event sh t thread _ = None
 
@@ -34,8 +37,9 @@ answered_or event t lock None = event
 -- the event of a call that isn't in its first phase
 abbrev pub later_event : Phase → Shared → TaskId → ThreadPart → Option LockId → Option Event
 later_event phases.Slow sh t thread (Some l) = Some (slow_event t l (kind_of thread l) (lock_in sh l) (task_in sh t) (task_at sh (lock_in sh l).owner))
-later_event phases.Wait sh t thread (Some l) = queued_event t l (kind_of thread l) (lock_in sh l) (task_in sh t) (task_in sh t).state
+later_event phases.Wait sh t thread (Some l) = queued_event (call_of thread) t l (kind_of thread l) (lock_in sh l) (task_in sh t) (task_at sh (lock_in sh l).owner)
 later_event (phases.Walk u route) sh t thread lock = Some (cursor_event sh t route u (task_in sh u) (task_in sh u).blocked)
+later_event (phases.Confirm path) sh t thread lock = Some (confirmed_event sh t path (first_broken sh path))
 later_event _ sh t thread lock = None
 
 -- the event of a call in a phase

@@ -10,10 +10,14 @@ pub mod AwakeTop
 pub mod Keys
 pub mod Walks
 pub mod OwnPriorities
+pub mod Responsible
 pub mod Lawful
 pub mod Local
 pub mod Holders
+pub mod Causes
 pub mod Deadlocks
+pub mod Interrupts
+pub mod Cycles
 pub mod Priorities
 pub mod Calls
 pub mod Sound

@@ -1,5 +1,5 @@
 -- Each task's calls, read off a list of events.
-use Rattle.std.specs.Prelude.{◌≡◌, ℕ, zero, suc, ◌<◌, Bool, true, false, List, [], ◌∷◌, ◌++◌, length, filter, Option, Some, None, IsSome, option_map, nat_eq}
+use Rattle.std.specs.Prelude.{◌≡◌, ℕ, zero, suc, ◌<◌, Bool, true, false, ◌||◌, List, [], ◌∷◌, ◌++◌, length, filter, Option, Some, None, IsSome, option_map, nat_eq}
 use Rattle.rt_base.specs.Script.{Script, task_line}
 use Rattle.rt_base.specs.declared.call.Call.{Call}
 use Rattle.rt_base.specs.declared.call.Call.TheVariants as calls
@@ -17,22 +17,43 @@ use Rattle.rt_model.specs.State.{State, start, task_part, thread_part}
 use Rattle.rt_model.specs.Run.{after, ended_of}
 use Rattle.rt_model.specs.laws.Keys.{StandsAt}
 
+-- a call that waits for a lock can have an event of this kind with this answer
+abbrev pub can_have_waiting : EventKind → Option Reply → Bool
+can_have_waiting kinds.Fast (Some replies.Got) = true
+can_have_waiting kinds.Mark None = true
+can_have_waiting kinds.Take (Some replies.Got) = true
+can_have_waiting kinds.Wait None = true
+can_have_waiting kinds.Again None = true
+can_have_waiting kinds.Walk None = true
+can_have_waiting kinds.WalkEnd None = true
+can_have_waiting kinds.Restart None = true
+can_have_waiting kinds.Cycle None = true
+can_have_waiting kinds.Cycle (Some replies.Deadlock) = true
+can_have_waiting kinds.Walk (Some replies.Deadlock) = true
+can_have_waiting kinds.WalkEnd (Some replies.Deadlock) = true
+can_have_waiting kinds.Own (Some replies.Deadlock) = true
+can_have_waiting _ _ = false
+
+-- one that a signal ends can have these besides
+abbrev pub can_have_signalled : EventKind → Option Reply → Bool
+can_have_signalled kinds.Leave None = true
+can_have_signalled kinds.Leave (Some replies.Interrupted) = true
+can_have_signalled kinds.Walk (Some replies.Interrupted) = true
+can_have_signalled kinds.WalkEnd (Some replies.Interrupted) = true
+can_have_signalled _ _ = false
+
 -- the call can have an event of this kind with this answer; so far of the calls that are played
 abbrev pub can_have : Call → EventKind → Option Reply → Bool
-can_have (calls.Lock l) kinds.Fast (Some replies.Got) = true
-can_have (calls.Lock l) kinds.Mark None = true
-can_have (calls.Lock l) kinds.Take (Some replies.Got) = true
-can_have (calls.Lock l) kinds.Wait None = true
-can_have (calls.Lock l) kinds.Again None = true
-can_have (calls.Lock l) kinds.Walk None = true
-can_have (calls.Lock l) kinds.WalkEnd None = true
-can_have (calls.Lock l) kinds.Own (Some replies.Deadlock) = true
+can_have (calls.Lock l) kind reply = can_have_waiting kind reply
+can_have (calls.LockInt l) kind reply = can_have_waiting kind reply || can_have_signalled kind reply
 can_have (calls.TryLock l) kinds.Fast (Some replies.Got) = true
 can_have (calls.TryLock l) kinds.Take (Some replies.Got) = true
 can_have (calls.TryLock l) kinds.Busy (Some replies.Busy) = true
 can_have (calls.Unlock l) kinds.Free (Some replies.Done) = true
 can_have (calls.Unlock l) kinds.Give (Some replies.Done) = true
 can_have (calls.Unlock l) kinds.Own (Some replies.NotOwner) = true
+can_have (calls.Signal t) kinds.Wake (Some replies.Woke) = true
+can_have (calls.Signal t) kinds.Wake (Some replies.Missed) = true
 can_have (calls.SetPrio t prio) kinds.SetPrio None = true
 can_have (calls.SetPrio t prio) kinds.SetPrio (Some replies.Done) = true
 can_have (calls.SetPrio t prio) kinds.Walk None = true
@@ -40,19 +61,22 @@ can_have (calls.SetPrio t prio) kinds.Walk (Some replies.Done) = true
 can_have (calls.SetPrio t prio) kinds.WalkEnd (Some replies.Done) = true
 can_have _ _ _ = false
 
--- the task that a call names, and the number
+-- the task that a call names, and the number, which for a signal is 1
 abbrev pub called_task : Call → Option TaskId
+called_task (calls.Signal t) = Some t
 called_task (calls.SetPrio t prio) = Some t
 called_task call = None
 
 abbrev pub called_number : Call → ℕ
+called_number (calls.Signal t) = 1
 called_number (calls.SetPrio t prio) = prio
 called_number call = 0
 
--- an event of this kind names what its call names, but those of a walk, of which a walk names a lock and a task, and its end a
--- task alone
+-- an event of this kind names what its call names, but those of a walk, of which a walk and a restart name a lock and a task, and
+-- a walk's end a task alone
 abbrev pub NamesFor : EventKind → Cpu → Call → Event → Type 0
 NamesFor kinds.Walk cpu call e = IsSome e.lock × IsSome e.other × (e.value ≡ 0)
+NamesFor kinds.Restart cpu call e = IsSome e.lock × IsSome e.other × (e.value ≡ 0)
 NamesFor kinds.WalkEnd cpu call e = (e.lock ≡ None) × IsSome e.other × (e.value ≡ 0)
 NamesFor kind cpu call e = (e.lock ≡ called_lock cpu call) × (e.other ≡ called_task call) × (e.value ≡ called_number call)
 

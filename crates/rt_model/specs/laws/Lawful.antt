@@ -13,6 +13,7 @@ use Rattle.rt_model.specs.laws.AwakeTop.{AwakeTopLaw}
 use Rattle.rt_model.specs.laws.Keys.{KeysLaw}
 use Rattle.rt_model.specs.laws.Walks.{WalksLaw}
 use Rattle.rt_model.specs.laws.OwnPriorities.{OwnPrioritiesLaw}
+use Rattle.rt_model.specs.laws.Responsible.{ResponsibleLaw}
 
 -- the state is lawful, where so many events were made
 pub record IsLawful (s : State) (made : ℕ) : Type 0 where
@@ -28,3 +29,4 @@ pub record IsLawful (s : State) (made : ℕ) : Type 0 where
   pub keys : KeysLaw s
   pub walks : WalksLaw s
   pub priorities : OwnPrioritiesLaw s
+  pub responsible : ResponsibleLaw s

@@ -6,13 +6,17 @@ use Rattle.rt_model.specs.State.{start}
 use Rattle.rt_model.specs.Run.{after}
 use Rattle.rt_model.specs.laws.Holders.{HoldersLaw}
 use Rattle.rt_model.specs.laws.Deadlocks.{DeadlocksLaw}
+use Rattle.rt_model.specs.laws.Interrupts.{InterruptsLaw}
+use Rattle.rt_model.specs.laws.Cycles.{CyclesLaw}
 use Rattle.rt_model.specs.laws.Priorities.{PriorityLaw}
 use Rattle.rt_model.specs.laws.Calls.{CallsLaw}
 
 -- each lock has one holder at most, and it is the owner; in every state every priority is right; a deadlock answer has its
--- cause; each task's calls are made once and in order
+-- cause, and so has an interrupted one; no cycle is passed over; each task's calls are made once and in order
 pub record IsSound (script : Script) (events : List Event) : Type 0 where
   pub holders : HoldersLaw (start script) events
   pub priorities : (prefix rest : List Event) → prefix ++ rest ≡ events → PriorityLaw (after (start script) prefix)
-  pub deadlocks : DeadlocksLaw events
+  pub deadlocks : DeadlocksLaw (start script) events
+  pub interrupts : InterruptsLaw (start script) events
+  pub cycles : CyclesLaw (start script) events
   pub calls : CallsLaw script events

@@ -1,9 +1,9 @@
 -- Walks law.
-use Rattle.std.specs.Prelude.{◌≡◌, ◌≢◌, ◌⊎◌, ℕ, ◌<◌, List, [], ◌∷◌, length, All, AllPairs, Option, Some}
+use Rattle.std.specs.Prelude.{◌≡◌, ◌≢◌, ◌⊎◌, ℕ, ◌<◌, ◌≤◌, List, [], ◌∷◌, length, All, AllPairs, Option, Some}
 use Rattle.rt_base.specs.declared.id.LockId.{LockId}
 use Rattle.rt_base.specs.declared.id.TaskId.{TaskId}
 use Rattle.rt_model.specs.declared.phase.Phase.{Phase}
-use Rattle.rt_model.specs.declared.phase.Phase.TheVariants.{Walk}
+use Rattle.rt_model.specs.declared.phase.Phase.TheVariants.{Walk, Confirm}
 use Rattle.rt_model.specs.declared.phase.Route.TheVariants.{Full, Short}
 use Rattle.rt_model.specs.State.{State, thread_part}
 use Rattle.rt_model.specs.laws.Queued.{present_lock}
@@ -21,10 +21,19 @@ pub record IsFullWalk (tasks : ℕ) (t : TaskId) (lock : Option LockId) (cursor 
   pub differ : AllPairs (λ (link other : ℕ × ℕ). link.0 ≢ other.0) path
   pub ahead : All (λ (link : ℕ × ℕ). link.0 ≢ cursor.0) path
 
--- a walk's cursor is there, and a full walk has such a path
+-- a path that is to be confirmed, of a task that waits for this lock: it begins with the task and its lock, and has two tasks or
+-- more, which are there and differ
+pub record IsToConfirm (tasks : ℕ) (t : TaskId) (lock : Option LockId) (path : List (ℕ × ℕ)) : Type 0 where
+  pub begins : BeginsWith t lock path
+  pub many : 2 ≤ length path
+  pub there : All (λ (link : ℕ × ℕ). link.0 < tasks) path
+  pub differ : AllPairs (λ (link other : ℕ × ℕ). link.0 ≢ other.0) path
+
+-- a walk's cursor is there, and a full walk has such a path, also where it is to be confirmed
 abbrev pub IsWalkOf : ℕ → TaskId → Option LockId → Phase → Type 0
 IsWalkOf tasks t lock (Walk cursor (Full path)) = (cursor.0 < tasks) × IsFullWalk tasks t lock cursor path
 IsWalkOf tasks t lock (Walk cursor (Short answer)) = cursor.0 < tasks
+IsWalkOf tasks t lock (Confirm path) = IsToConfirm tasks t lock path
 IsWalkOf tasks t lock _ = Unit {0}
 
 -- so each walk

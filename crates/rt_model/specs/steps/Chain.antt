@@ -1,5 +1,5 @@
 -- Steps along a chain of locks.
-use Rattle.std.specs.Prelude.{ℕ, Bool, false, not, List, [], ◌∷◌, ◌++◌, Option, Some, None, option_map, is_some, is_none, nat_eq, ◌&&◌, if◌then◌else◌}
+use Rattle.std.specs.Prelude.{ℕ, Bool, false, not, List, [], ◌∷◌, ◌++◌, Option, Some, None, option_map, is_none, nat_eq, ◌&&◌, if◌then◌else◌}
 use Rattle.std.specs.List.{list_any}
 use Rattle.rt_base.specs.declared.id.LockId.{LockId}
 use Rattle.rt_base.specs.declared.id.TaskId.{TaskId}
@@ -58,22 +58,25 @@ abbrev pub path_before : TaskId → List (ℕ × ℕ) → List (ℕ × ℕ)
 path_before t [] = []
 path_before t (link ∷ path) = if nat_eq link.0 t.0 then [] else link ∷ path_before t path
 
--- a walk goes on to a task: a short one where its key is old, a full one where it is blocked, but to a task of its path where
--- the key is old
-abbrev pub goes_on_to : Route → TaskId → TaskPart → Bool
-goes_on_to (Short answer) t task = has_old_key task
-goes_on_to (Full path) t task = if is_on_path t path then has_old_key task else is_some task.blocked
+-- a full walk ends at a task that isn't blocked; where it comes back to its own task its path is to be confirmed; at another
+-- task of its path it ends, but where that one's key is old it stands there again, with the path cut before its link
+abbrev pub full_at : TaskId → List (ℕ × ℕ) → TaskId → TaskPart → Option Phase
+full_at t path o task =
+    if is_none task.blocked then None
+    else if nat_eq o.0 t.0 then Some (phases.Confirm path)
+    else if is_on_path o path && not (has_old_key task) then None
+    else Some (phases.Walk o (Full (path_before o path)))
 
--- the route on which it does so: the path is cut before the task's own link
-abbrev pub route_to : TaskId → Route → Route
-route_to t (Full path) = Full (path_before t path)
-route_to t (Short answer) = Short answer
+-- a short walk goes on to a task whose key is old
+abbrev pub short_at : Reply → TaskId → TaskPart → Option Phase
+short_at answer o task = if has_old_key task then Some (phases.Walk o (Short answer)) else None
 
--- how a walk goes on at a task, the owner of the lock that it left, or the one where it is to begin (`rt_mutex_adjust_pi`): the
--- phase in which it stands there, or none where it ends
-abbrev pub goes_on : Route → Option TaskId → TaskPart → Option Phase
-goes_on route None task = None
-goes_on route (Some t) task = if goes_on_to route t task then Some (phases.Walk t (route_to t route)) else None
+-- how a walk of a task goes on at another one, the owner of the lock that it left, or the one where it is to begin
+-- (`rt_mutex_adjust_pi`): the phase in which it stands there, or none where it ends
+abbrev pub goes_on : TaskId → Route → Option TaskId → TaskPart → Option Phase
+goes_on t route None task = None
+goes_on t (Full path) (Some o) task = full_at t path o task
+goes_on t (Short answer) (Some o) task = short_at answer o task
 
 -- a full walk that ends leaves its task waiting, a short one ends the call
 abbrev pub phase_of_walk : Route → Option Phase → Phase

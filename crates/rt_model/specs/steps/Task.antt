@@ -1,5 +1,5 @@
 -- Steps on a task.
-use Rattle.std.specs.Prelude.{ℕ, Bool, true, false, List, Option, Some, None, option_map, is_some, if◌then◌else◌, slice_set}
+use Rattle.std.specs.Prelude.{ℕ, zero, suc, Bool, true, false, List, Option, Some, None, option_map, is_some, ◌||◌, if◌then◌else◌, slice_set}
 use Rattle.rt_base.specs.Kind.{spins}
 use Rattle.rt_base.specs.declared.call.Call.{Call}
 use Rattle.rt_base.specs.declared.call.Call.TheVariants as calls
@@ -7,6 +7,8 @@ use Rattle.rt_base.specs.declared.id.LockId.{LockId}
 use Rattle.rt_base.specs.declared.kind.Kind.{Kind}
 use Rattle.rt_base.specs.declared.state.TaskState.{TaskState}
 use Rattle.rt_base.specs.declared.state.TaskState.TheVariants as states
+use Rattle.rt_base.specs.declared.reply.Reply.{Reply}
+use Rattle.rt_base.specs.declared.reply.Reply.TheVariants.{Woke, Missed}
 use Rattle.rt_model.specs.declared.row.Row.{Row}
 use Rattle.rt_model.specs.Parts.{TaskPart, effective_of}
 use Rattle.rt_model.specs.Rows.{top_key}
@@ -54,7 +56,15 @@ restored spinning task = if spinning then record task { state = task.saved; save
 abbrev pub leave_queue : Bool → TaskPart → TaskPart
 leave_queue spinning task = if is_some task.blocked then record (restored spinning task) { blocked = None } else task
 
+-- the same where a signal ended the wait: it isn't pending any more
+abbrev pub interrupted : Bool → TaskPart → TaskPart
+interrupted spinning task = record (leave_queue spinning task) { signal = false }
+
 -- ---- wakeups
+
+abbrev pub runs : TaskState → Bool
+runs states.Running = true
+runs _ = false
 
 -- the state is one of the two ordinary sleeps
 abbrev pub sleeps : TaskState → Bool
@@ -78,6 +88,15 @@ abbrev pub signalled : TaskPart → TaskPart
 signalled task = if is_interruptible task.state then record task { signal = true; state = states.Running }
     else if is_interruptible task.saved then record task { signal = true; saved = states.Running }
     else record task { signal = true }
+
+-- what a wakeup leaves of its target, and what a signal, which has the number 1
+abbrev pub woken_by : ℕ → TaskPart → TaskPart
+woken_by zero task = woken_up task
+woken_by (suc n) task = signalled task
+
+-- whether a signal ended a sleep
+abbrev pub signal_answer : TaskPart → Reply
+signal_answer task = if is_interruptible task.state || is_interruptible task.saved then Woke else Missed
 
 -- the wait for a spinning kind ends
 abbrev pub lock_state_woken : TaskState → TaskState

@@ -16,6 +16,7 @@ with_hold thread l owns = slice_set thread.holds l.0 (record (hold_of thread l) 
 -- what a thread holds once its call has this answer; so far of the calls of a mutex that are played
 abbrev pub holds_after : ThreadPart → Option Call → Reply → List Hold
 holds_after thread (Some (calls.Lock l)) replies.Got = with_hold thread l true
+holds_after thread (Some (calls.LockInt l)) replies.Got = with_hold thread l true
 holds_after thread (Some (calls.TryLock l)) replies.Got = with_hold thread l true
 holds_after thread (Some (calls.Unlock l)) replies.Done = with_hold thread l false
 holds_after thread call answer = thread.holds

@@ -2,6 +2,7 @@
 --
 --    kept-edges-go   no task is blocked on another lock than it was, no lock has an owner that it hadn't, but one that isn't blocked
 --                    after it, and each task has the phase that it had, or had no full walk, or isn't blocked after it
+--    kept-same       the same, where each task is blocked and each lock has its owner as before
 --    kept-wait       one task is blocked on a lock, and walks as it does after a wait; no lock has another owner, and all other
 --                    tasks are blocked and have phases as before
 --    kept-walk       one task's full walk has gone through the lock of its cursor; all else as before
@@ -29,7 +30,7 @@ use Rattle.rt_model.proofs.Paths.{Differ}
 use Rattle.rt_model.proofs.Queues.{AllPairs-head}
 use Rattle.rt_model.proofs.graph.Turned.{task_of_pair, All-front, All-back, links-first, links-from, IsOn, on-or-off, turned-cycle}
 use Rattle.rt_model.proofs.graph.Standing.{blocked_lock, lock-blocked, blocked-lock}
-use Rattle.rt_model.proofs.graph.Along.{other-test, cycle-blocked, walk-at, walk-along, confirm-whole}
+use Rattle.rt_model.proofs.graph.Along.{other-test, cycle-blocked, cycle-some, walk-at, walk-along, confirm-whole}
 
 -- ---- what becomes of a task's walk
 
@@ -86,6 +87,14 @@ pub record SameEdges (s next : State) : Type 0 where
   pub blocked : (u : TaskId) → blocked_lock (task_part next u) ≡ blocked_lock (task_part s u)
   pub owners : (l : LockId) → (owner_part next l).owner ≡ (owner_part s l).owner
 
+-- where no task is blocked there is no cycle
+pub responsible-unblocked : (s : State) → ((t : TaskId) → (task_part s t).blocked ≡ None) → ResponsibleLaw s
+responsible-unblocked s none [] stands = absurd (cycle-some s [] stands refl)
+responsible-unblocked s none (pair ∷ path) stands =
+    let t : TaskId = task_of_pair pair in
+    let edge = links-first (Edge s) pair path stands.edges in
+    absurd (lock_some (task_part s t).blocked (record { 0 = pair.1 }) (lock-blocked (task_part s t).blocked (record { 0 = pair.1 }) edge.blocked) (none t))
+
 module _ (s next : State) where
   -- every cycle was one, and who was responsible for it is so
   keeps : ((cycle : List (ℕ × ℕ)) → IsCycle next cycle → IsCycle s cycle) → ((cycle : List (ℕ × ℕ)) → IsCycle next cycle → IsCycle s cycle → IsResponsible s cycle → IsResponsible next cycle)
@@ -130,6 +139,10 @@ module _ (s next : State) where
             let edge = links-first (Edge next) pair path stands.edges in
             walk_stays (pair ∷ path) (thread_part s t).phase (thread_part next t).phase (task_part next t) (phases t)
             (lock_some (task_part next t).blocked (record { 0 = pair.1 }) (lock-blocked (task_part next t).blocked (record { 0 = pair.1 }) edge.blocked)) responsible
+
+  -- where no edge changes at all
+  pub kept-same : SameEdges s next → ((u : TaskId) → KeepsWalk (thread_part s u).phase (thread_part next u).phase (task_part next u)) → ResponsibleLaw s → ResponsibleLaw next
+  kept-same same phases = kept-edges-go (λ u l is. sym (same.blocked u) ∙ is) (λ l o is. inl (sym (same.owners l) ∙ is)) phases
 
   -- ---- one task's walk
 

@@ -14,7 +14,3 @@ use Rattle.rt_model.proofs.Alike.{Alike}
 pub record IsSetPrio (s : State) (t u : TaskId) (prio : ℕ) (e : Event) : Type 0 where
   pub at : IsIn s t phases.Start (calls.SetPrio u prio)
   pub event : e ≡ setprio_event t u prio (task_part s u)
-
--- it reads that task alone
-pub same-setprio : (a b : Shared) (t u : TaskId) (prio : ℕ) → Alike (setprio_event t u prio (task_in a u)) a b → setprio_event t u prio (task_in b u) ≡ setprio_event t u prio (task_in a u)
-same-setprio a b t u prio alike = ap (setprio_event t u prio) (alike.task u (touches-other (setprio_event t u prio (task_in a u)) u refl))

@@ -89,3 +89,10 @@ pub asked : (s : State) (t : TaskId) (phase : Phase) (call : Call) → IsIn s t 
 asked s t phase call at is =
     let some = waited_for call is in
     (some.0, record { call = call; waits_for = some.1; at = at }, waits-called (thread_part s t).cpu call some.0 some.1)
+
+-- and so for the lock that it is about
+pub waits-about : (cpu : Cpu) (call : Call) (l : LockId) → waits call ≡ true → called_lock cpu call ≡ Some l → WaitsFor call l
+waits-about cpu call l is about =
+    let some = waited_for call is in
+    let same : some.0 ≡ l = let also = waits-called cpu call some.0 some.1 in cc in
+    subst (WaitsFor call) same some.1

@@ -26,8 +26,7 @@ use Rattle.rt_model.specs.laws.Lawful.{IsLawful}
 use Rattle.rt_model.specs.laws.Owners.{owned_by}
 use Rattle.rt_model.specs.laws.Shape.{IsShaped, IsWithin}
 use Rattle.rt_model.proofs.CellStepLemmas.{IsLike, IsWoken, lock_woken-like, rekeyed-like, rekeyed-at, where_changed-blocked}
-use Rattle.rt_model.proofs.NextEvents.{by_walk}
-use Rattle.rt_model.proofs.Named.{within}
+use Rattle.rt_model.proofs.Named.{of_walk}
 use Rattle.rt_model.proofs.Numbers.{number_itself, other_way}
 use Rattle.rt_model.proofs.PartsAfter.{SlotsThere, slots-made, task-keeps, lock-made, locks-kept}
 use Rattle.rt_model.proofs.Waiters.{IsLink, walk-link, walk-phase}
@@ -73,7 +72,7 @@ module _ (s : State) (made : ℕ) (t : TaskId) (route : Route) (u : TaskId) (l :
   link_woken = newly_top (owner_part s l) link_lock
 
   abbrev pub link_next : Option Phase
-  link_next = goes_on (followed u l route) (owner_part s l).owner (link_owner (task_at (shared s) (owner_part s l).owner))
+  link_next = goes_on t (followed u l route) (owner_part s l).owner (link_owner (task_at (shared s) (owner_part s l).owner))
 
   there : IsLink s u l
   there = walk-link s made t route u l key e lawful is
@@ -92,7 +91,7 @@ module _ (s : State) (made : ℕ) (t : TaskId) (route : Route) (u : TaskId) (l :
   -- the tasks that it names are there
   pub link-slots : SlotsThere (touched link_made.kind link_made) (length s.tasks)
   link-slots =
-      let names = subst (IsWithin (length s.threads) (length s.locks)) is.event (within s made t e lawful (by_walk route u (is_walk l key is))) in
+      let names = subst (IsWithin (length s.threads) (length s.locks)) is.event (of_walk s made t e lawful route u (is_walk l key is)) in
       slots_there s link_made lawful.shape names.owner names.other names.woken
 
   pub link-task : (v : TaskId) → task_part (state_after s e) v ≡ link_task v (task_part s v)
@@ -134,18 +133,18 @@ module _ (s : State) (made : ℕ) (t : TaskId) (route : Route) (u : TaskId) (l :
       apart o some = other_way u o (sym (ap (λ (p : Option TaskId). owned_by p u) some) ∙ there.unowned)
 
   -- how the walk goes on is told by the owner as it is left
-  next_left : goes_on (followed u l route) (owner_part s l).owner (task_at (shared (state_after s e)) (owner_part s l).owner) ≡ link_next
+  next_left : goes_on t (followed u l route) (owner_part s l).owner (task_at (shared (state_after s e)) (owner_part s l).owner) ≡ link_next
   next_left = by_owner (owner_part s l).owner refl
     where
-      by_owner : (owner : Option TaskId) → (owner_part s l).owner ≡ owner → goes_on (followed u l route) owner (task_at (shared (state_after s e)) owner) ≡ goes_on (followed u l route) owner (link_owner (task_at (shared s) owner))
+      by_owner : (owner : Option TaskId) → (owner_part s l).owner ≡ owner → goes_on t (followed u l route) owner (task_at (shared (state_after s e)) owner) ≡ goes_on t (followed u l route) owner (link_owner (task_at (shared s) owner))
       by_owner None none = refl
-      by_owner (Some o) some = ap (λ (task : TaskPart). goes_on (followed u l route) (Some o) task) (link-owner o some)
+      by_owner (Some o) some = ap (λ (task : TaskPart). goes_on t (followed u l route) (Some o) task) (link-owner o some)
 
   -- its thread
   pub link-thread : thread_after (shared s) (thread_part s t) link_made ≡ walked_thread (thread_part s t) route link_next
   link-thread =
-      ap (λ (p : Phase). answered_with (record (thread_part s t) { phase = phase_after_link (Some l) (owner_part s l).owner (task_at (shared (state_after s link_made)) (owner_part s l).owner) p }) (answer_of_walk route link_next)) (walk-phase s t route u is.how)
-      ∙ (ap (λ (y : Event). answered_with (record (thread_part s t) { phase = phase_of_walk route (goes_on (followed u l route) (owner_part s l).owner (task_at (shared (state_after s y)) (owner_part s l).owner)) }) (answer_of_walk route link_next)) (sym is.event)
+      ap (λ (p : Phase). answered_with (record (thread_part s t) { phase = phase_after_link t (Some l) (owner_part s l).owner (task_at (shared (state_after s link_made)) (owner_part s l).owner) p }) (answer_of_walk route link_next)) (walk-phase s t route u is.how)
+      ∙ (ap (λ (y : Event). answered_with (record (thread_part s t) { phase = phase_of_walk route (goes_on t (followed u l route) (owner_part s l).owner (task_at (shared (state_after s y)) (owner_part s l).owner)) }) (answer_of_walk route link_next)) (sym is.event)
       ∙ ap (λ (n : Option Phase). answered_with (record (thread_part s t) { phase = phase_of_walk route n }) (answer_of_walk route link_next)) next_left)
 
 -- ---- a walk's end
@@ -170,7 +169,7 @@ module _ (s : State) (made : ℕ) (t u : TaskId) (prio : ℕ) (e : Event) (lawfu
 
   -- the walk that begins, or none
   abbrev pub setprio_next : Option Phase
-  setprio_next = goes_on (Short Done) (Some u) (with_own prio (task_part s u))
+  setprio_next = goes_on t (Short Done) (Some u) (with_own prio (task_part s u))
 
   -- its target has that own priority, and every other task is as it was
   pub setprio-task : (v : TaskId) → task_part (state_after s e) v ≡ cond (nat_eq u.0 v.0) (with_own prio (task_part s v)) (task_part s v)
@@ -196,7 +195,7 @@ module _ (s : State) (made : ℕ) (t u : TaskId) (prio : ℕ) (e : Event) (lawfu
 
   pub setprio-thread : thread_after (shared s) (thread_part s t) setprio_made ≡ walked_thread (thread_part s t) (Short Done) setprio_next
   setprio-thread =
-      ap (λ (task : TaskPart). answered_with (record (thread_part s t) { phase = phase_of_walk (Short Done) (goes_on (Short Done) (Some u) task) }) (answer_of_walk (Short Done) setprio_next))
+      ap (λ (task : TaskPart). answered_with (record (thread_part s t) { phase = phase_of_walk (Short Done) (goes_on t (Short Done) (Some u) task) }) (answer_of_walk (Short Done) setprio_next))
       (sym (ap (λ (y : Event). task_part (state_after s y) u) is.event) ∙ setprio-target)
 
 -- ---- what a link leaves of a task, part by part

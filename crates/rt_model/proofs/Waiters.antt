@@ -1,6 +1,8 @@
 -- What a lawful state says of a task in a phase.
-use Rattle.std.proofs.Common.{◌≡◌, ℕ, ◌<◌, false, cond, List, length, refl, sym, ap, ◌∙◌, subst, Option, Some, None, IfSome}
+use Rattle.std.proofs.Common.{◌≡◌, ◌≢◌, ℕ, ◌<◌, ◌≤◌, false, cond, List, [], ◌∷◌, length, arith, refl, sym, ap, ◌∙◌, subst, Option, Some, None, IfSome, All}
 use Rattle.std.specs.Prelude.{nat_eq, option_map, option_and_then}
+use Rattle.std.proofs.lemmas.Bool.Decides.{nat_tests}
+use Rattle.std.proofs.lemmas.List.Elements.{All-head, All-tail}
 use Rattle.rt_base.specs.declared.call.Call.{Call}
 use Rattle.rt_base.specs.declared.call.Call.TheVariants as calls
 use Rattle.rt_base.specs.declared.id.LockId.{LockId}
@@ -150,6 +152,36 @@ pub confirm-walk : (s : State) (made : ℕ) (t : TaskId) (path : List (ℕ × �
 confirm-walk s made t path l lawful is =
     subst (λ (lock : Option LockId). IsToConfirm (length s.threads) t lock path) (asks-present s t (phases.Confirm path) l is)
     (subst (IsWalkOf (length s.threads) t (present_lock (thread_part s t))) is.at.phased (lawful.walks t))
+
+-- it begins with the task and its lock, and leads to another task
+pub record IsRound (s : State) (t : TaskId) (l : LockId) (path : List (ℕ × ℕ)) : Type 0 where
+  pub owner : TaskId
+  pub next : LockId
+  pub rest : List (ℕ × ℕ)
+  pub is : path ≡ (t.0, l.0) ∷ (owner.0, next.0) ∷ rest
+  pub there : owner.0 < length s.threads
+  pub other : nat_eq t.0 owner.0 ≡ false
+
+round : (s : State) (t : TaskId) (l : LockId) (path : List (ℕ × ℕ)) → IsToConfirm (length s.threads) t (Some l) path → IsRound s t l path
+round s t l [] is = absurd is.begins
+round s t l (pair ∷ []) is = let many : 2 ≤ 1 = is.many in absurd (omega (arith, many))
+round s t l (pair ∷ second ∷ rest) is = record {
+  owner = record { 0 = second.0 };
+  next = record { 0 = second.1 };
+  rest = rest;
+  is = λ i. (is.begins.0 i, lock (sym is.begins.1) i) ∷ second ∷ rest;
+  there = All-head (λ (pair : ℕ × ℕ). pair.0 < length s.threads) second rest (All-tail (λ (pair : ℕ × ℕ). pair.0 < length s.threads) pair (second ∷ rest) is.there);
+  other = apart (is.differ 0 1 pair (omega arith) (omega arith));
+}
+  where
+    lock : Some (record { 0 = pair.1 }) ≡ Some l → pair.1 ≡ l.0
+    lock same = let one : record { 0 = pair.1 } ≡ l = cc in ap (λ (m : LockId). m.0) one
+
+    apart : pair.0 ≢ second.0 → nat_eq t.0 second.0 ≡ false
+    apart differ = grind (arith, nat_tests)
+
+pub round-begins : (s : State) (made : ℕ) (t : TaskId) (path : List (ℕ × ℕ)) (l : LockId) → IsLawful s made → Asks s t (phases.Confirm path) l → IsRound s t l path
+round-begins s made t path l lawful is = round s t l path (confirm-walk s made t path l lawful is)
 
 -- what a link finds: the cursor and the lock are there, and the cursor doesn't own that lock
 pub record IsLink (s : State) (u : TaskId) (l : LockId) : Type 0 where

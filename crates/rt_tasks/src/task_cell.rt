@@ -309,7 +309,7 @@ impl TaskCell {
     }
 
     /// Whether a signal would end an interruptible sleep of it, or one that is saved, `ttwu_state_match`.
-    pub fn signal_wakes(&self) -> bool
+    pub fn heeds_signal(&self) -> bool
         ensures { result ≡ (is_interruptible self.now.state || is_interruptible self.now.saved) }
     {
         is_interruptible(self.state) || is_interruptible(self.saved)

@@ -12,7 +12,7 @@ use rt_tasks::TaskCell;
 pub fn signal_event(t: TaskId, u: TaskId, task: &TaskCell) -> Chosen
     ensures { result ≡ signal_event t u task.now }
 {
-    let wakes = task.signal_wakes();
+    let wakes = task.heeds_signal();
     Chosen {
         other: Some(u),
         value: 1,

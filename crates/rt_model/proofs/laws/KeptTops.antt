@@ -30,7 +30,7 @@ use Rattle.rt_model.proofs.events.Wait.{IsWait, is_wait, is_again, is_leave}
 use Rattle.rt_model.proofs.events.Release.{IsGive, is_free, is_give}
 use Rattle.rt_model.proofs.events.Walk.{IsWalk, is_walk, is_walkend, is_restart, is_cycle}
 use Rattle.rt_model.proofs.Calling.{asks-lock}
-use Rattle.rt_model.proofs.Leaves.{IsLeft, left_made, left-is, leave-left, cycle-left, left-unowned, left-lock_there, left-locks, left_refreshed, left-own_like, left-others}
+use Rattle.rt_model.proofs.Leaves.{IsLeft, left_made, left-is, leave-left, cycle-left, left-unowned, left-lock_there, left-locks, left-own_like, left-others}
 use Rattle.rt_model.proofs.Links.{requeued-owner, link_refreshed, link-like}
 use Rattle.rt_model.proofs.PartsAfter.{read-set_same, read-set_other, OthersKeep, lock-made, lock-kept, task-keeps, own-made, owner-made}
 use Rattle.rt_model.proofs.Within.{owner_within, owner_room, kept_room, task_room}

@@ -1,5 +1,5 @@
 -- A next event keeps the rows law.
-use Rattle.std.proofs.Common.{◌≡◌, ℕ, suc, ◌<◌, ◌≤◌, true, false, length, List, refl, sym, ap, ◌∙◌, arith, Option, Some, None, Bool, []}
+use Rattle.std.proofs.Common.{◌≡◌, ℕ, suc, ◌≤◌, true, false, List, refl, sym, ap, ◌∙◌, arith, Option, Some, None, Bool, []}
 use Rattle.std.specs.Prelude.{nat_eq, option_map}
 use Rattle.std.proofs.lemmas.Bool.{cond_both}
 use Rattle.rt_base.specs.declared.id.LockId.{LockId}
@@ -27,7 +27,7 @@ use Rattle.rt_model.proofs.events.Release.{is_free, is_give}
 use Rattle.rt_model.proofs.events.Walk.{IsWalk, is_walk, is_walkend, is_restart, is_cycle}
 use Rattle.rt_model.proofs.Links.{link-locks, link-blocked, link-blocked_other}
 use Rattle.rt_model.proofs.Queues.{none_of, queue-ordered, insert-ordered, without-ordered, where_old-queue, where_old-key, where_old-other, row_of-insert, row_of-insert_other, row_of-without, row_of-without_other, no_rows}
-use Rattle.rt_model.proofs.Waiters.{blocking, key_elsewhere, take-elsewhere, slow-nowhere, slow-unqueued, walk-link}
+use Rattle.rt_model.proofs.Waiters.{blocking, key_elsewhere, take-elsewhere, slow-nowhere, slow-unqueued}
 use Rattle.rt_model.proofs.Numbers.{number_itself, at_each_task}
 
 -- ---- where a task is queued

@@ -90,7 +90,8 @@ there-others : (m : LockId) (top : Option ℕ) (kind : EventKind) (e : Event) (t
 there-others m top kinds.Wait e th ne found lock = record { owner = λ task was. with_top-there e.lock m (top_key lock.rows) task ne ∙ was; other = λ task was. was; woken = λ task was. was }
 there-others m top kinds.Leave e th ne found lock = record { owner = λ task was. with_top-there e.lock m (top_key lock.rows) task ne ∙ was; other = λ task was. was; woken = λ task was. was }
 there-others m top kinds.Cycle e th ne found lock = record { owner = λ task was. with_top-there e.lock m (top_key lock.rows) task ne ∙ was; other = λ task was. was; woken = λ task was. was }
-there-others m top kinds.Wake e th ne found lock = record { owner = λ task was. was; other = λ task was. kept-same m task (woken_by e.value task) (woken_by-like e.value task).like.kept ∙ was; woken = λ task was. was }
+there-others m top kinds.Wake e th ne found lock =
+    record { owner = λ task was. was; other = λ task was. kept-same m task (woken_by e.value task) (woken_by-like e.value task).like.kept ∙ was; woken = λ task was. was }
 there-others m top kinds.Walk e th ne found lock =
     let spinning : Bool = spins (kind_named th e.lock) in
     record {

@@ -151,7 +151,8 @@ passed-key t u (Full path) task unless =
     own = cond (nat_eq u.0 t.0) (Some (phases.Confirm path)) other
 
 -- a task to which a walk was to go on, where none names it
-goes-key : (s : State) (t u : TaskId) (thread : ThreadPart) (route onward : Route) (task : TaskPart) → thread_part s t ≡ walked_thread thread route (goes_on t onward (Some u) task) → (IsNamed s u → ⊥) → HasKey task
+goes-key : (s : State) (t u : TaskId) (thread : ThreadPart) (route onward : Route) (task : TaskPart)
+    → thread_part s t ≡ walked_thread thread route (goes_on t onward (Some u) task) → (IsNamed s u → ⊥) → HasKey task
 goes-key s t u thread route onward task left unnamed =
     passed-key t u onward task
     (λ phase goes names. unnamed (named_by s t u (subst (Names t u)
@@ -273,7 +274,8 @@ module _ (s : State) (made : ℕ) (t : TaskId) (e : Event) (u : TaskId) (lawful 
       cursor : TaskPart
       cursor = cond (nat_eq v.0 u.0) (rekeyed owner) owner
 
-      left : owned_by (owner_part s l).owner u ≡ true → thread_part (state_after s e) t ≡ walked_thread (thread_part s t) route (goes_on t (followed v l route) (Some u) (refreshed_owner (task_part s u)))
+      left : owned_by (owner_part s l).owner u ≡ true
+          → thread_part (state_after s e) t ≡ walked_thread (thread_part s t) route (goes_on t (followed v l route) (Some u) (refreshed_owner (task_part s u)))
       left owns =
           thread-own s e _ is.event is.task ∙ (link-thread s made t route v l old e lawful is
           ∙ ap (λ (o : Option TaskId). walked_thread (thread_part s t) route (goes_on t (followed v l route) o (refreshed_owner (task_at (shared s) o)))) (owner-is (owner_part s l).owner u owns))
@@ -290,15 +292,18 @@ module _ (s : State) (made : ℕ) (t : TaskId) (e : Event) (u : TaskId) (lawful 
   -- who leaves a queue isn't blocked any more; the lock's owner, whose priority may change, is where a walk begins, where its key is old
   left-key : (l : LockId) → IsLeft s t l e → HasKey (task_part (state_after s e) u)
   left-key l is =
-      at_each_task (λ v. v ≡ u → HasKey (task_part (state_after s e) v)) t u (λ same. unblocked-key (task_part (state_after s e) t) (left-own_blocked s made t l e lawful is)) (λ other same. others other) refl
+      at_each_task (λ v. HasKey (task_part (state_after s e) v)) t u (unblocked-key (task_part (state_after s e) t) (left-own_blocked s made t l e lawful is)) others
     where
+      route : Route
+      route = Short (left_answer is)
+
       after_owner : TaskPart → TaskPart
       after_owner task = refreshed (Some l) (left_by t (owner_part s l)).rows task
 
-      left : owned_by (owner_part s l).owner u ≡ true → thread_part (state_after s e) t ≡ walked_thread (thread_part s t) (Short (left_answer is)) (goes_on t (Short (left_answer is)) (Some u) (after_owner (task_part s u)))
+      left : owned_by (owner_part s l).owner u ≡ true → thread_part (state_after s e) t ≡ walked_thread (thread_part s t) route (goes_on t route (Some u) (after_owner (task_part s u)))
       left owns =
           left-thread_own s made t l e lawful is
-          ∙ ap (λ (o : Option TaskId). walked_thread (thread_part s t) (Short (left_answer is)) (goes_on t (Short (left_answer is)) o (after_owner (task_at (shared s) o)))) (owner-is (owner_part s l).owner u owns)
+          ∙ ap (λ (o : Option TaskId). walked_thread (thread_part s t) route (goes_on t route o (after_owner (task_at (shared s) o)))) (owner-is (owner_part s l).owner u owns)
 
       elsewhere : (i : IsLeft s t l e) → nat_eq t.0 u.0 ≡ false → Names t u (left_phase i) → ⊥
       elsewhere (by_leave leaves) other names = names
@@ -308,7 +313,7 @@ module _ (s : State) (made : ℕ) (t : TaskId) (e : Event) (u : TaskId) (lawful 
       others other =
           subst HasKey (sym (left-others s made t l e lawful is u other))
           (cond_both (owned_by (owner_part s l).owner u) (after_owner (task_part s u)) (task_part s u) HasKey
-          (λ owns. goes-key (state_after s e) t u (thread_part s t) (Short (left_answer is)) (Short (left_answer is)) (after_owner (task_part s u)) (left owns) unnamed)
+          (λ owns. goes-key (state_after s e) t u (thread_part s t) route route (after_owner (task_part s u)) (left owns) unnamed)
           (λ not_its. key (ap (λ (x : Event). x.task) (left-is s t l e is)) (at_phase s t u (left_phase is) (left-asks s made t l e lawful is).at.phased (elsewhere is other))))
 
   -- a walk that begins anew stands at its own task, which was named before

@@ -107,7 +107,8 @@ queue-next s made t e m lawful next = by_kind next
     by_kind (by_acquire l (is_mark is)) = lock-made Queue s e _ l m is.event refl (asks-lock s t phases.Start l is.at) (stays l (owner_part s l).owner true (λ clear. absurd cc)) (λ there. same m)
     by_kind (by_acquire l (is_take is)) = lock-made Queue s e _ l m is.event refl is.lock (fewer made t (owner_part s l) (Some t) (was l)) (λ there. same m)
     by_kind (by_wait l (is_wait is)) =
-        lock-made Queue s e _ l m is.event refl (asks-lock s t phases.Slow l is.at) (more made t (effective_of (task_part s t)) (owner_part s l) (slow-unqueued s made t lawful l is.at.call is.at.at) (was l)) (λ there. same m)
+        lock-made Queue s e _ l m is.event refl (asks-lock s t phases.Slow l is.at)
+        (more made t (effective_of (task_part s t)) (owner_part s l) (slow-unqueued s made t lawful l is.at.call is.at.at) (was l)) (λ there. same m)
     by_kind (by_walk route u (is_walk l key is)) =
         link-locks s made t route u l key e lawful is Queue m (anew made u (task_part s u) key (owner_part s l) (blocked-queued s made u l key lawful.rows is.blocked) (was l)) (λ there. same m)
     by_kind (by_release l (is_free is)) = lock-made Queue s e _ l m is.event refl is.at.served (stays l None (owner_part s l).bit (was l).queue.clear) (λ there. same m)
@@ -149,12 +150,14 @@ module _ (s : State) (made : ℕ) (t : TaskId) (e : Event) (m : LockId) (u : Tas
 
   take-row : (l : LockId) → IsTake s t l e → RowLeft
   take-row l is =
-      row-moved s e l m t u None (taken_by t (owner_part s l)) lawful.rows.rows (λ P. lock-made P s e _ l m is.event refl is.lock) (take-blocked s t e l lawful.shape is) (key-of (row_of-without t (owner_part s l).rows))
+      row-moved s e l m t u None (taken_by t (owner_part s l)) lawful.rows.rows (λ P. lock-made P s e _ l m is.event refl is.lock)
+      (take-blocked s t e l lawful.shape is) (key-of (row_of-without t (owner_part s l).rows))
       (blocked-still s t e _ u is.event refl refl) (λ ne. key-of (row_of-without_other t u (owner_part s l).rows ne)) (take-elsewhere s made t lawful l m is.how)
 
   left-row : (l : LockId) → IsLeft s t l e → RowLeft
   left-row l is =
-      row-moved s e l m t u None (left_by t (owner_part s l)) lawful.rows.rows (λ P. left-locks s made t l e lawful is P m) (left-own_blocked s made t l e lawful is) (key-of (row_of-without t (owner_part s l).rows))
+      row-moved s e l m t u None (left_by t (owner_part s l)) lawful.rows.rows (λ P. left-locks s made t l e lawful is P m)
+      (left-own_blocked s made t l e lawful is) (key-of (row_of-without t (owner_part s l).rows))
       (left-blocked_other s made t l e lawful is u) (λ ne. key-of (row_of-without_other t u (owner_part s l).rows ne))
       (key_elsewhere (task_part s t).blocked l m (ap blocking (left-blocked s made t l e lawful is).1))
 
@@ -163,9 +166,10 @@ module _ (s : State) (made : ℕ) (t : TaskId) (e : Event) (m : LockId) (u : Tas
       let key : ℕ = effective_of (task_part s t) in
       let row : Row = record { key = key; ticket = (owner_part s l).ticket; who = t.0 } in
       let none = none_of t (owner_part s l).rows (slow-unqueued s made t lawful l is.at.call is.at.at) in
-      row-moved s e l m t u (Some (l, key)) (queued t key (owner_part s l)) lawful.rows.rows (λ P. lock-made P s e _ l m is.event refl (asks-lock s t phases.Slow l is.at)) (wait-blocked s t e l lawful.shape is)
-      (key-of (row_of-insert t row (owner_part s l).rows (number_itself t.0) none) ∙ key_there l key)
-      (blocked-still s t e _ u is.event refl refl) (λ ne. key-of (row_of-insert_other u row (owner_part s l).rows ne)) (λ there. slow-nowhere s made t lawful m is.at.call is.at.at ∙ key_not_there l m key there)
+      row-moved s e l m t u (Some (l, key)) (queued t key (owner_part s l)) lawful.rows.rows (λ P. lock-made P s e _ l m is.event refl (asks-lock s t phases.Slow l is.at))
+      (wait-blocked s t e l lawful.shape is) (key-of (row_of-insert t row (owner_part s l).rows (number_itself t.0) none) ∙ key_there l key)
+      (blocked-still s t e _ u is.event refl refl) (λ ne. key-of (row_of-insert_other u row (owner_part s l).rows ne))
+      (λ there. slow-nowhere s made t lawful m is.at.call is.at.at ∙ key_not_there l m key there)
 
   -- here it is the cursor that moves
   walk-row : (route : Route) (cursor : TaskId) (l : LockId) (key : ℕ) → IsWalk s t route cursor l key e → RowLeft

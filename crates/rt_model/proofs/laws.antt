@@ -11,7 +11,9 @@ pub mod Walks
 pub mod States
 pub mod OwnPriorities
 pub mod Holders
+pub mod Causes
 pub mod Deadlocks
+pub mod Interrupts
 pub mod Priorities
 pub mod Calls
 pub mod Sound

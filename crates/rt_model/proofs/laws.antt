@@ -10,6 +10,7 @@ pub mod Keys
 pub mod Walks
 pub mod States
 pub mod OwnPriorities
+pub mod Responsible
 pub mod Holders
 pub mod Causes
 pub mod Deadlocks

@@ -1,6 +1,6 @@
 -- The event from which an answer comes.
 use Rattle.std.proofs.Common.{◌≡◌, ◌⊎◌, inl, inr, ℕ, suc, ◌+◌, ◌<◌, Bool, true, false, ◌||◌, cond, List, [], ◌∷◌, ◌++◌, length, refl, sym, ap, ◌∙◌, subst, Option, Some, None, All}
-use Rattle.std.specs.Prelude.{slice_get, nat_eq, nat_lt, option_map}
+use Rattle.std.specs.Prelude.{nat_eq, nat_lt, option_map}
 use Rattle.std.proofs.lemmas.Bool.{cond_both}
 use Rattle.std.proofs.lemmas.List.Elements.{All-nil, All-cons, All-head, All-tail}
 use Rattle.std.proofs.lemmas.List.{append-nil, append_assoc}
@@ -41,7 +41,7 @@ use Rattle.rt_model.specs.laws.Causes.{IsCause}
 use Rattle.rt_model.specs.laws.Lawful.{IsLawful}
 use Rattle.rt_model.specs.laws.Rows.{key_at}
 use Rattle.rt_model.specs.laws.Shape.{IsShaped}
-use Rattle.rt_model.proofs.NextEvents.{IsNext, by_own, by_acquire, by_wait, by_release, by_walk, by_confirm, by_signal, by_setprio, task-IsNext}
+use Rattle.rt_model.proofs.NextEvents.{IsNext, by_own, by_acquire, by_wait, by_release, by_walk, by_confirm, by_signal, by_setprio}
 use Rattle.rt_model.proofs.CellStepLemmas.{leave_queue-blocked, interrupted-blocked, with_top-blocked}
 use Rattle.rt_model.proofs.Lawful.{IsLawful-next}
 use Rattle.rt_model.proofs.Within.{task_room}
@@ -51,7 +51,7 @@ use Rattle.rt_model.proofs.events.Own.{IsOwn}
 use Rattle.rt_model.proofs.events.Acquire.{is_fast, is_mark, is_take, is_busy}
 use Rattle.rt_model.proofs.events.Wait.{is_wait, is_again, is_leave, IsLeave}
 use Rattle.rt_model.proofs.events.Release.{is_free, is_give}
-use Rattle.rt_model.proofs.events.Walk.{WalksIn, by_full, by_short, is_walk, is_walkend, is_restart, is_cycle, IsWalk, IsWalkEnd, IsCycleEvent}
+use Rattle.rt_model.proofs.events.Walk.{WalksIn, by_full, by_short, is_walk, is_walkend, is_restart, is_cycle, IsWalk, IsCycleEvent}
 use Rattle.rt_model.proofs.Prefixes.{run-prefix, run-lawful, run-next, lawful-there, next-there, next-task}
 
 some-same : {X : Type 0} {x y : X} → Some x ≡ Some y → x ≡ y

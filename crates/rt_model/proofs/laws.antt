@@ -15,6 +15,7 @@ pub mod Holders
 pub mod Causes
 pub mod Deadlocks
 pub mod Interrupts
+pub mod Cycles
 pub mod Priorities
 pub mod Calls
 pub mod Sound

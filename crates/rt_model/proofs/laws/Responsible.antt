@@ -1,5 +1,5 @@
 -- The responsible-walker law is kept.
-use Rattle.std.proofs.Common.{◌≡◌, ◌⊎◌, inl, inr, ℕ, ◌<◌, false, length, refl, sym, ap, ◌∙◌, subst, Option, Some, None}
+use Rattle.std.proofs.Common.{◌≡◌, ◌⊎◌, inl, inr, ℕ, ◌<◌, false, List, [], ◌∷◌, ◌++◌, length, refl, sym, ap, ◌∙◌, subst, Option, Some, None}
 use Rattle.std.specs.Prelude.{nat_eq}
 use Rattle.rt_base.specs.declared.call.Call.{Call}
 use Rattle.rt_base.specs.declared.call.Call.TheVariants as calls
@@ -7,9 +7,10 @@ use Rattle.rt_base.specs.declared.id.LockId.{LockId}
 use Rattle.rt_base.specs.declared.id.TaskId.{TaskId}
 use Rattle.rt_base.specs.declared.reply.Reply.{Reply}
 use Rattle.rt_model.specs.declared.event.Event.{Event}
+use Rattle.rt_model.specs.declared.phase.Phase.{Phase}
 use Rattle.rt_model.specs.declared.phase.Phase.TheVariants as phases
 use Rattle.rt_model.specs.declared.phase.Route.{Route}
-use Rattle.rt_model.specs.declared.phase.Route.TheVariants.{Short}
+use Rattle.rt_model.specs.declared.phase.Route.TheVariants.{Full, Short}
 use Rattle.rt_model.specs.Parts.{OwnerPart, TaskPart, ThreadPart}
 use Rattle.rt_model.specs.State.{State, shared, task_at, owner_part, task_part, thread_part}
 use Rattle.rt_model.specs.Rules.{touched}
@@ -34,6 +35,18 @@ use Rattle.rt_model.proofs.events.Wait.{IsWait, is_wait, is_again, is_leave}
 use Rattle.rt_model.proofs.events.Walk.{WalksIn, by_full, by_short, IsWalk, is_walk, IsWalkEnd, is_walkend, is_restart, is_cycle}
 use Rattle.rt_model.proofs.graph.Standing.{blocked_lock, not-edges}
 use Rattle.rt_model.proofs.graph.Kept.{is_full, KeepsWalk, same_phase, no_walk, unblocked, SameEdges, kept-edges-go, kept-same, kept-wait, kept-walk, kept-walkend, kept-restart}
+
+-- how a full walk goes on after a link: at the lock's owner, which is blocked on the lock on which it was
+pub full-link : (s : State) (made : ℕ) (t : TaskId) (route : Route) (u : TaskId) (l : LockId) (key : ℕ) (e : Event) (path : List (ℕ × ℕ)) → IsLawful s made → route ≡ Full path → IsWalk s t route u l key e
+    → (task : TaskPart) × (blocked_lock task ≡ blocked_lock (task_at (shared s) (owner_part s l).owner))
+    × ((thread_part (state_after s e) t).phase ≡ phase_of_walk (Full path) (goes_on t (Full (path ++ (u.0, l.0) ∷ [])) (owner_part s l).owner task))
+full-link s made t route u l key e path lawful full is =
+    let next : Option Phase = link_next s made t route u l key e lawful is in
+    let owner : TaskPart = task_at (shared s) (owner_part s l).owner in
+    let task : TaskPart = link_owner s made t route u l key e lawful is owner in
+    (task, ap blocking (where_changed-blocked (Some l) (owner_part s l).rows (link_lock s made t route u l key e lawful is).rows owner),
+    ap (λ (th : ThreadPart). th.phase) (thread-own s e _ is.event is.task ∙ link-thread s made t route u l key e lawful is)
+    ∙ (walked-phase (thread_part s t) route next ∙ ap (λ (r : Route). phase_of_walk r (goes_on t (followed u l r) (owner_part s l).owner task)) full))
 
 module _ (s : State) (made : ℕ) (t : TaskId) (e : Event) (lawful : IsLawful s made) (next : IsNext s t e) where
   -- ---- other tasks
@@ -128,23 +141,14 @@ module _ (s : State) (made : ℕ) (t : TaskId) (e : Event) (lawful : IsLawful s 
       goes (left-own_blocked s made t l e lawful is)
       (λ m o owned. inl (left-locks s made t l e lawful is (λ (k : LockId) (lock : OwnerPart). lock.owner ≡ Some o → (owner_part s k).owner ≡ Some o) m (λ some. some) (λ ne some. some) owned))
 
-  -- a link of a full walk, and its end
+  -- a link of a walk, and its end
   of_link : (route : Route) (u : TaskId) (l : LockId) (key : ℕ) → IsWalk s t route u l key e → ResponsibleLaw (state_after s e)
   of_link route u l key is = by_route is.how
     where
-      task : TaskPart
-      task = link_owner s made t route u l key e lawful is (task_at (shared s) (owner_part s l).owner)
-
-      now : (thread_part (state_after s e) t).phase ≡ phase_of_walk route (link_next s made t route u l key e lawful is)
-      now =
-          ap (λ (th : ThreadPart). th.phase) (thread-own s e _ is.event is.task ∙ link-thread s made t route u l key e lawful is)
-          ∙ walked-phase (thread_part s t) route (link_next s made t route u l key e lawful is)
-
       by_route : WalksIn s t route u → ResponsibleLaw (state_after s e)
       by_route (by_full path m full asks) =
-          kept-walk s (state_after s e) (same-edges _ is.event refl refl) t other-phase u l path task (asks.at.phased ∙ ap (phases.Walk u) full) (ap blocking is.blocked)
-          (ap blocking (where_changed-blocked (Some l) (owner_part s l).rows (link_lock s made t route u l key e lawful is).rows (task_at (shared s) (owner_part s l).owner)))
-          (now ∙ ap (λ (r : Route). phase_of_walk r (goes_on t (followed u l r) (owner_part s l).owner task)) full) lawful.responsible
+          let onward = full-link s made t route u l key e path lawful full is in
+          kept-walk s (state_after s e) (same-edges _ is.event refl refl) t other-phase u l path onward.0 (asks.at.phased ∙ ap (phases.Walk u) full) (ap blocking is.blocked) onward.1 onward.2 lawful.responsible
       by_route (by_short call answer short at to_come) = stays _ is.event refl refl (short-blocked u answer call (subst (λ (r : Route). IsIn s t (phases.Walk u r) call) short at))
 
   of_end : (route : Route) (u : TaskId) → IsWalkEnd s t route u e → ResponsibleLaw (state_after s e)

@@ -4,7 +4,6 @@ pub mod Prefixes
 pub mod PrefixesAll
 pub mod OwnerParts
 pub mod SharedSteps
-pub mod Walked
 pub mod TwoCells
 pub mod Holds
 pub mod Starting

@@ -21,6 +21,7 @@ use crate::next::is_old;
 use crate::shared::Shared;
 use crate::thread::Thread;
 use rt_base::{LockId, Path, Reply, TaskId};
+use rt_events::first_owner;
 use rt_model::{Event, Phase, Route};
 use rt_tasks::TaskCell;
 
@@ -76,17 +77,6 @@ pub fn cycle(shared: &mut Shared, thread: &mut Thread, e: &Event, l: LockId)
         first_owner(&e.path),
         Reply::Deadlock,
     );
-}
-
-// The task to which the first link of a path leads: that of the second one, where there is one.
-fn first_owner(path: &Path) -> Option<TaskId>
-    ensures { result ≡ first_owner path.now }
-{
-    match path.len() {
-        0 => None,
-        1 => Some(path.at(0).0),
-        _ => Some(path.at(1).0),
-    }
 }
 
 /// The phase in which a call stands that is over but for the priorities along a chain, `rt_mutex_adjust_pi`:

@@ -3,12 +3,13 @@ use Rattle.std.proofs.Common.{◌≡◌, ◌≢◌, ◌⊎◌, inl, inr, ℕ, ze
 use Rattle.std.specs.Prelude.{AllPairs, filter, nat_eq}
 use Rattle.std.proofs.lemmas.Bool.{cond_both, not-true, not-false}
 use Rattle.std.proofs.lemmas.Bool.Decides.{nat_tests}
+use Rattle.std.proofs.lemmas.List.{length-append}
 use Rattle.std.proofs.lemmas.List.Elements.{All-nil, All-head, All-tail, All-cons, All-push}
 use Rattle.std.proofs.lemmas.List.Kept.{AllPairs-cons, AllPairs-filter}
 use Rattle.rt_base.specs.declared.id.LockId.{LockId}
 use Rattle.rt_base.specs.declared.id.TaskId.{TaskId}
 use Rattle.rt_model.specs.steps.Chain.{path_before}
-use Rattle.rt_model.specs.laws.Walks.{BeginsWith, IsFullWalk}
+use Rattle.rt_model.specs.laws.Walks.{BeginsWith, IsFullWalk, IsToConfirm}
 use Rattle.rt_model.proofs.Numbers.{same_number, other_number}
 use Rattle.rt_model.proofs.Queues.{AllPairs-head, AllPairs-tail}
 
@@ -74,6 +75,28 @@ full-goes n t u o l lock path lt full own =
     begun : ((path ≡ []) × (u ≡ t)) ⊎ BeginsWith t lock path → BeginsWith t lock (path ++ (u.0, l.0) ∷ [])
     begun (inl fresh) = subst (λ (xs : List (ℕ × ℕ)). BeginsWith t lock (xs ++ (u.0, l.0) ∷ [])) (sym fresh.0) (ap (λ (v : TaskId). v.0) fresh.1, own fresh.1)
     begun (inr begins) = begins-push t lock path (u.0, l.0) begins
+
+-- ---- a walk that comes back to its own task
+
+-- with its cursor's link, where the cursor is another task, it is to be confirmed
+pub full-confirms : (n : ℕ) (t u : TaskId) (l : LockId) (lock : Option LockId) (path : List (ℕ × ℕ)) → u.0 < n → IsFullWalk n t lock u path → nat_eq t.0 u.0 ≡ false → IsToConfirm n t lock (path ++ (u.0, l.0) ∷ [])
+full-confirms n t u l lock path lt full apart = begun full.begins
+  where
+    link : ℕ × ℕ
+    link = (u.0, l.0)
+
+    long : (path : List (ℕ × ℕ)) → BeginsWith t lock path → 2 ≤ length (path ++ link ∷ [])
+    long [] begins = absurd begins
+    long (first ∷ path) begins = let more = length-append path (link ∷ []) in omega (arith, more)
+
+    begun : ((path ≡ []) × (u ≡ t)) ⊎ BeginsWith t lock path → IsToConfirm n t lock (path ++ link ∷ [])
+    begun (inl fresh) = absurd (other_number t.0 u.0 apart (ap (λ (v : TaskId). v.0) (sym fresh.1)))
+    begun (inr begins) = record {
+      begins = begins-push t lock path link begins;
+      many = long path begins;
+      there = All-push (λ (other : ℕ × ℕ). other.0 < n) path link full.there lt;
+      differ = AllPairs-push Differ path link full.differ full.ahead;
+    }
 
 -- ---- how long a path is
 

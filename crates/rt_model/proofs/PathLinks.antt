@@ -2,6 +2,7 @@
 use Rattle.std.proofs.Common.{◌≡◌, ℕ, Bool, true, false, cond, not, List, [], ◌∷◌, refl, subst, Option, Some, None, IfSome, All}
 use Rattle.std.specs.Prelude.{find}
 use Rattle.std.proofs.lemmas.List.Elements.{All-nil, All-head, All-tail, All-cons}
+use Rattle.rt_base.specs.declared.id.LockId.{LockId}
 use Rattle.rt_base.specs.declared.id.TaskId.{TaskId}
 use Rattle.rt_model.specs.State.{State, shared}
 use Rattle.rt_model.specs.Path.{Link, first_task, links_to, links_of, stands, first_broken}
@@ -23,9 +24,12 @@ pub broken-holds : (P : Link → Type 0) (s : State) (path : List (ℕ × ℕ)) 
 broken-holds P s path link all is = subst (λ (o : Option Link). IfSome o P) is (find-holds P (λ link. not (stands (shared s) link)) (links_of path) all)
 
 -- where none is broken, the first one stands
-pub first-stands : (s : State) (link : Link) (links : List Link) → find (λ link. not (stands (shared s) link)) (link ∷ links) ≡ None → stands (shared s) link ≡ true
-first-stands s link links none = by_test (stands (shared s) link) none
+pub first-stands : (s : State) (t o : TaskId) (l m : LockId) (rest : List (ℕ × ℕ)) → first_broken (shared s) ((t.0, l.0) ∷ (o.0, m.0) ∷ rest) ≡ None → stands (shared s) (record { from = t; lock = l; to = o }) ≡ true
+first-stands s t o l m rest none = by_test (stands (shared s) first) none
   where
-    by_test : (b : Bool) → cond (not b) (Some link) (find (λ link. not (stands (shared s) link)) links) ≡ None → b ≡ true
+    first : Link
+    first = record { from = t; lock = l; to = o }
+
+    by_test : (b : Bool) → cond (not b) (Some first) (find (λ link. not (stands (shared s) link)) (links_to t ((o.0, m.0) ∷ rest))) ≡ None → b ≡ true
     by_test true none = refl
     by_test false none = cc

@@ -69,14 +69,8 @@ pub fn cycle(shared: &mut Shared, thread: &mut Thread, e: &Event, l: LockId)
     } }
     ensures thread { let owner = first_owner e.now.path in thread.new ≡ record thread.old { phase = phase_of_walk (Short Deadlock) (goes_on e.now.task (Short Deadlock) owner (task_at shared.new owner)) } }
 {
-    leave_row(
-        shared,
-        thread,
-        e.task,
-        l,
-        first_owner(&e.path),
-        Reply::Deadlock,
-    );
+    let owner = first_owner(&e.path);
+    leave_row(shared, thread, e.task, l, owner, Reply::Deadlock);
 }
 
 /// The phase in which a call stands that is over but for the priorities along a chain, `rt_mutex_adjust_pi`:

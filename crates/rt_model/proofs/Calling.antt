@@ -1,6 +1,6 @@
 -- What a state says of a task that is at a call.
 use Rattle.std.proofs.Common.{◌≡◌, ◌⊎◌, inl, inr, ◌<◌, ◌≤◌, get_or, length, refl, sym, ap, ◌∙◌, subst, Option, Some, None, All}
-use Rattle.std.specs.Prelude.{Bool, true, slice_get, option_and_then}
+use Rattle.std.specs.Prelude.{true, slice_get, option_and_then}
 use Rattle.std.proofs.lemmas.Option.{slice_get_cases}
 use Rattle.rt_base.specs.declared.call.Call.{Call}
 use Rattle.rt_base.specs.declared.call.Call.TheVariants as calls

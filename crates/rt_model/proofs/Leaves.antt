@@ -1,6 +1,6 @@
 -- What a wait leaves that ends without the lock: by a signal, or by a cycle that stands.
 use Rattle.std.proofs.Common.{◌≡◌, inl, inr, ℕ, ◌<◌, Bool, true, false, cond, List, [], ◌∷◌, length, refl, sym, ap, ◌∙◌, subst, Option, Some, None, IfSome}
-use Rattle.std.specs.Prelude.{nat_eq, is_some, ◌&&◌}
+use Rattle.std.specs.Prelude.{nat_eq, is_some}
 use Rattle.std.proofs.lemmas.Bool.{cond-true, cond-false, cond_both, and_parts}
 use Rattle.rt_base.specs.Kind.{spins}
 use Rattle.rt_base.specs.declared.call.Call.{Call}
@@ -19,7 +19,7 @@ use Rattle.rt_model.specs.Parts.{OwnerPart, TaskPart, ThreadPart, effective_of, 
 use Rattle.rt_model.specs.Rows.{top_key}
 use Rattle.rt_model.specs.State.{State, shared, lock_at, task_at, owner_part, task_part, thread_part}
 use Rattle.rt_model.specs.Stage.{IsToCome, IsPhaseOf}
-use Rattle.rt_model.specs.Path.{Link, first_lock, first_owner, first_broken, is_blocked_on, keeps_top}
+use Rattle.rt_model.specs.Path.{first_lock, first_owner, first_broken, is_blocked_on, keeps_top}
 use Rattle.rt_model.specs.steps.Lock.{left_by}
 use Rattle.rt_model.specs.steps.Task.{refreshed, leave_queue, interrupted}
 use Rattle.rt_model.specs.steps.Thread.{answered_with}
@@ -34,8 +34,7 @@ use Rattle.rt_model.specs.laws.KeptTops.{kept_of}
 use Rattle.rt_model.specs.laws.Lawful.{IsLawful}
 use Rattle.rt_model.specs.laws.Owners.{owned_by}
 use Rattle.rt_model.specs.laws.Queued.{awaited_in}
-use Rattle.rt_model.proofs.Blocked.{blocked-other}
-use Rattle.rt_model.proofs.Calling.{Asks, by_lock, by_lockint, asks-lock, waits-holds}
+use Rattle.rt_model.proofs.Calling.{Asks, by_lockint, asks-lock, waits-holds}
 use Rattle.rt_model.proofs.CellStepLemmas.{IsLike, with_top-blocked, leave_queue-blocked, leave_queue-like, interrupted-blocked, interrupted-like}
 use Rattle.rt_model.proofs.Links.{walked_thread, slots_there}
 use Rattle.rt_model.proofs.Numbers.{number_itself, other_way, same_task, owner-is}

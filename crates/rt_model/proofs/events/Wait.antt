@@ -1,24 +1,20 @@
--- Waits: how they come about, and that their choice reads only what they touch.
+-- Waits: how they come about.
 use Rattle.std.proofs.Common.{◌≡◌, ◌⊎◌, inl, inr, Bool, true, false, cond, ◌||◌, refl, sym, ap, ◌∙◌, subst, Option, Some, None}
 use Rattle.rt_base.specs.declared.call.Call.{Call}
 use Rattle.rt_base.specs.declared.call.Call.TheVariants as calls
 use Rattle.rt_base.specs.declared.id.LockId.{LockId}
 use Rattle.rt_base.specs.declared.id.TaskId.{TaskId}
-use Rattle.rt_base.specs.declared.kind.Kind.{Kind}
 use Rattle.rt_base.specs.declared.state.TaskState.{TaskState}
 use Rattle.rt_base.specs.declared.state.TaskState.TheVariants as states
 use Rattle.rt_model.specs.declared.event.Event.{Event}
 use Rattle.rt_model.specs.declared.phase.Phase.{Phase}
 use Rattle.rt_model.specs.declared.phase.Phase.TheVariants as phases
-use Rattle.rt_model.specs.Parts.{TaskPart, kind_of, call_of}
+use Rattle.rt_model.specs.Parts.{kind_of, call_of}
 use Rattle.rt_model.specs.Rows.{can_take}
-use Rattle.rt_model.specs.State.{State, Shared, shared, lock_in, task_in, task_at, owner_part, task_part, thread_part}
-use Rattle.rt_model.specs.events.Acquire.{take_event}
+use Rattle.rt_model.specs.State.{State, shared, task_at, owner_part, task_part, thread_part}
 use Rattle.rt_model.specs.steps.Task.{runs}
 use Rattle.rt_model.specs.events.Wait.{wait_event, slow_event, leave_event, is_interrupted, is_awake, again_event, refused_event, awake_event, queued_event}
 use Rattle.rt_model.proofs.Calling.{IsIn, WaitsFor, by_lock, by_lockint, Asks, asks-lock}
-use Rattle.rt_model.proofs.Touching.{touches-lock, touches-own, touches-owner}
-use Rattle.rt_model.proofs.Alike.{Alike, GivesAlike, same-task_at}
 use Rattle.rt_model.proofs.events.Acquire.{IsTake, from_slow, from_wait, taken_or}
 
 -- ---- how they come about
@@ -110,46 +106,3 @@ woken_up s t l e asks is = by_test (is_awake (call_of (thread_part s t)) (task_p
     by_test : (b : Bool) → is_awake (call_of (thread_part s t)) (task_part s t) ≡ b → cond b (Some made) None ≡ Some e → IsTake s t l e ⊎ IsWaiting s t l e
     by_test true awake is = let same : made ≡ e = cc in awakened s t l e asks awake same
     by_test false asleep is = cc
-
--- ---- what the choice reads
-
-pub same-slow : (a b : Shared) (t : TaskId) (l : LockId) (kind : Kind) → Alike (slow_event t l kind (lock_in a l) (task_in a t) (task_at a (lock_in a l).owner)) a b
-    → slow_event t l kind (lock_in b l) (task_in b t) (task_at b (lock_in b l).owner) ≡ slow_event t l kind (lock_in a l) (task_in a t) (task_at a (lock_in a l).owner)
-same-slow a b t l kind = by_test (can_take t kind (lock_in a l) (task_in a t)) refl
-  where
-    taken : Event
-    taken = take_event t l kind (lock_in a l) (task_in a t)
-
-    waits : TaskPart → Event
-    waits owner = wait_event t l (lock_in a l) (task_in a t) owner
-
-    by_test : (c : Bool) → can_take t kind (lock_in a l) (task_in a t) ≡ c → Alike (cond c taken (waits (task_at a (lock_in a l).owner))) a b
-        → slow_event t l kind (lock_in b l) (task_in b t) (task_at b (lock_in b l).owner) ≡ cond c taken (waits (task_at a (lock_in a l).owner))
-    by_test true can alike =
-        let lock = alike.lock l (touches-lock taken l refl) in
-        let task = alike.task t (touches-own taken t refl) in
-        (λ i. slow_event t l kind (lock i) (task i) (task_at b (lock i).owner)) ∙ ap (λ (c : Bool). cond c taken (waits (task_at b (lock_in a l).owner))) can
-    by_test false can alike =
-        let lock = alike.lock l (touches-lock (waits (task_at a (lock_in a l).owner)) l refl) in
-        let task = alike.task t (touches-own (waits (task_at a (lock_in a l).owner)) t refl) in
-        let owner = same-task_at a b (lock_in a l).owner (λ u is. alike.task u (touches-owner (waits (task_at a (lock_in a l).owner)) u is)) in
-        (λ i. slow_event t l kind (lock i) (task i) (task_at b (lock i).owner)) ∙ (ap (λ (c : Bool). cond c taken (waits (task_at b (lock_in a l).owner))) can ∙ ap waits owner)
-
-same-awake : (a b : Shared) (t : TaskId) (l : LockId) (kind : Kind) → Alike (awake_event t l kind (lock_in a l) (task_in a t)) a b → (lock_in b l ≡ lock_in a l) × (task_in b t ≡ task_in a t)
-same-awake a b t l kind = by_test (can_take t kind (lock_in a l) (task_in a t))
-  where
-    by_test : (c : Bool) → Alike (cond c (take_event t l kind (lock_in a l) (task_in a t)) (again_event t l)) a b → (lock_in b l ≡ lock_in a l) × (task_in b t ≡ task_in a t)
-    by_test true alike = (alike.lock l (touches-lock (take_event t l kind (lock_in a l) (task_in a t)) l refl), alike.task t (touches-own (take_event t l kind (lock_in a l) (task_in a t)) t refl))
-    by_test false alike = (alike.lock l (touches-lock (again_event t l) l refl), alike.task t (touches-own (again_event t l) t refl))
-
-pub same-queued : (t : TaskId) (l : LockId) (kind : Kind) (a b : Shared) → GivesAlike (λ sh. queued_event t l kind (lock_in sh l) (task_in sh t) (task_in sh t).state) a b
-same-queued t l kind a b e = by_state (task_in a t).state refl
-  where
-    by_state : (state : TaskState) → (task_in a t).state ≡ state → queued_event t l kind (lock_in a l) (task_in a t) state ≡ Some e → Alike e a b → queued_event t l kind (lock_in b l) (task_in b t) (task_in b t).state ≡ Some e
-    by_state states.Running running is alike =
-        let event : awake_event t l kind (lock_in a l) (task_in a t) ≡ e = cc in
-        let same = same-awake a b t l kind (subst (λ (x : Event). Alike x a b) (sym event) alike) in
-        (λ i. queued_event t l kind (same.0 i) (same.1 i) (same.1 i).state) ∙ (ap (queued_event t l kind (lock_in a l) (task_in a t)) running ∙ is)
-    by_state states.Interruptible sleeps is alike = cc
-    by_state states.Uninterruptible sleeps is alike = cc
-    by_state states.LockWait sleeps is alike = cc

@@ -1,5 +1,5 @@
 -- What a next event names is there.
-use Rattle.std.proofs.Common.{◌≡◌, ℕ, ◌<◌, Bool, true, false, cond, not, ◌&&◌, List, length, sym, ap, ◌∙◌, subst, Option, Some, None, IfSome, All, is_none}
+use Rattle.std.proofs.Common.{ℕ, ◌<◌, Bool, true, false, cond, not, ◌&&◌, List, length, sym, ap, ◌∙◌, subst, Option, Some, None, IfSome, All, is_none}
 use Rattle.std.specs.Prelude.{nat_eq, option_map}
 use Rattle.std.proofs.lemmas.Bool.{cond_both}
 use Rattle.std.proofs.lemmas.List.Elements.{All-filter}
@@ -138,17 +138,11 @@ module _ (s : State) (made : ℕ) (t : TaskId) (e : Event) (lawful : IsLawful s 
       })
 
   -- the lock of a broken link is one of the path
-  of_restart : (l : LockId) (path : List (ℕ × ℕ)) (link : Link) → IsRestart s t l path link e → All (λ (pair : ℕ × ℕ). pair.1 < length s.locks) path → Within e
-  of_restart l path link is locks =
-      let walk = confirm-walk s made t path l lawful is.at in
-      subst Within (sym is.event) (record {
-        task = is.at.at.task;
-        lock = broken-holds (λ (link : Link). link.lock.0 < length s.locks) s path link (All-links_of (λ n k. k < length s.locks) path locks) is.broken;
-        other = broken-holds (λ (link : Link). link.from.0 < length s.threads) s path link (All-links_of (λ n k. n < length s.threads) path walk.there) is.broken;
-        owner = tt;
-        woken = tt;
-        boost = tt;
-      })
+  of_restart : (l : LockId) (path : List (ℕ × ℕ)) (link : Link) → IsRestart s t l path link e → Within e
+  of_restart l path link is =
+      let there = All-links_of (λ n m. (n < length s.threads) × (m < length s.locks)) path (confirm-walk s made t path l lawful is.at).there in
+      let link_there = broken-holds (λ (link : Link). (link.from.0 < length s.threads) × (link.lock.0 < length s.locks)) s path link there is.broken in
+      subst Within (sym is.event) (record { task = is.at.at.task; lock = link_there.1; other = link_there.0; owner = tt; woken = tt; boost = tt })
 
   of_signal : (u : TaskId) → IsSignal s t u e → Within e
   of_signal u is = subst Within (sym is.event) (record { task = is.at.task; lock = tt; other = is.at.served; owner = tt; woken = tt; boost = tt })
@@ -156,18 +150,14 @@ module _ (s : State) (made : ℕ) (t : TaskId) (e : Event) (lawful : IsLawful s 
   of_setprio : (u : TaskId) (prio : ℕ) → IsSetPrio s t u prio e → Within e
   of_setprio u prio is = subst Within (sym is.event) (record { task = is.at.task; lock = tt; other = is.at.served.0; owner = tt; woken = tt; boost = boost_within (length s.threads) u _ _ is.at.served.0 })
 
--- the locks of a path that is to be confirmed are there
-abbrev pub LocksThere : State → TaskId → Type 0
-LocksThere s t = (path : List (ℕ × ℕ)) → (thread_part s t).phase ≡ phases.Confirm path → All (λ (pair : ℕ × ℕ). pair.1 < length s.locks) path
-
 -- what a next event names is there
-pub within : (s : State) (made : ℕ) (t : TaskId) (e : Event) → IsLawful s made → LocksThere s t → IsNext s t e → IsWithin (length s.threads) (length s.locks) e
-within s made t e lawful locks (by_own call answer is) = of_own s made t e lawful call answer is
-within s made t e lawful locks (by_acquire l is) = of_acquire s made t e lawful l is
-within s made t e lawful locks (by_wait l is) = of_wait s made t e lawful l is
-within s made t e lawful locks (by_release l is) = of_release s made t e lawful l is
-within s made t e lawful locks (by_walk route u is) = of_walk s made t e lawful route u is
-within s made t e lawful locks (by_confirm l path (is_restart link is)) = of_restart s made t e lawful l path link is (locks path is.at.at.phased)
-within s made t e lawful locks (by_confirm l path (is_cycle is)) = of_cycle s made t e lawful l path is
-within s made t e lawful locks (by_signal u is) = of_signal s made t e lawful u is
-within s made t e lawful locks (by_setprio u prio is) = of_setprio s made t e lawful u prio is
+pub within : (s : State) (made : ℕ) (t : TaskId) (e : Event) → IsLawful s made → IsNext s t e → IsWithin (length s.threads) (length s.locks) e
+within s made t e lawful (by_own call answer is) = of_own s made t e lawful call answer is
+within s made t e lawful (by_acquire l is) = of_acquire s made t e lawful l is
+within s made t e lawful (by_wait l is) = of_wait s made t e lawful l is
+within s made t e lawful (by_release l is) = of_release s made t e lawful l is
+within s made t e lawful (by_walk route u is) = of_walk s made t e lawful route u is
+within s made t e lawful (by_confirm l path (is_restart link is)) = of_restart s made t e lawful l path link is
+within s made t e lawful (by_confirm l path (is_cycle is)) = of_cycle s made t e lawful l path is
+within s made t e lawful (by_signal u is) = of_signal s made t e lawful u is
+within s made t e lawful (by_setprio u prio is) = of_setprio s made t e lawful u prio is

@@ -193,7 +193,7 @@ IsLawful-start script valid mutexes = record {
   };
   awake = λ l free. subst (λ (rows : List Row). IfSome (top_waiter rows) (λ row. (task_part (start script) (task_of row)).state ≡ Running)) (sym (rows-start script l)) tt;
   keys = λ t apart. subst (λ (b : Option (LockId × ℕ)). IfSome b (λ at. at.1 ≡ effective_of (task_part (start script) t))) (sym (blocked-start script t)) tt;
-  walks = λ t. subst (IsWalkOf (length (start script).threads) t (present_lock (thread_part (start script) t))) (sym (phase-start script t)) tt;
+  walks = λ t. subst (IsWalkOf (length (start script).threads) (length (start script).locks) t (present_lock (thread_part (start script) t))) (sym (phase-start script t)) tt;
   priorities = OwnPrioritiesLaw-start script valid;
   responsible = responsible-start script;
 }

@@ -135,23 +135,23 @@ walk-phase s t route u (by_short call answer same at to_come) = at.phased
 
 -- its cursor is there
 pub cursor-there : (s : State) (made : ℕ) (t : TaskId) (route : Route) (u : TaskId) → IsLawful s made → WalksIn s t route u → u.0 < length s.threads
-cursor-there s made t route u lawful how = of_route route (subst (IsWalkOf (length s.threads) t (present_lock (thread_part s t))) (walk-phase s t route u how) (lawful.walks t))
+cursor-there s made t route u lawful how = of_route route (subst (IsWalkOf (length s.threads) (length s.locks) t (present_lock (thread_part s t))) (walk-phase s t route u how) (lawful.walks t))
   where
-    of_route : (r : Route) → IsWalkOf (length s.threads) t (present_lock (thread_part s t)) (phases.Walk u r) → u.0 < length s.threads
+    of_route : (r : Route) → IsWalkOf (length s.threads) (length s.locks) t (present_lock (thread_part s t)) (phases.Walk u r) → u.0 < length s.threads
     of_route (Full path) is = is.0
     of_route (Short answer) is = is
 
 -- and a full one has such a path
-pub full-walk : (s : State) (made : ℕ) (t : TaskId) (u : TaskId) (path : List (ℕ × ℕ)) (l : LockId) → IsLawful s made → Asks s t (phases.Walk u (Full path)) l → IsFullWalk (length s.threads) t (Some l) u path
+pub full-walk : (s : State) (made : ℕ) (t : TaskId) (u : TaskId) (path : List (ℕ × ℕ)) (l : LockId) → IsLawful s made → Asks s t (phases.Walk u (Full path)) l → IsFullWalk (length s.threads) (length s.locks) t (Some l) u path
 full-walk s made t u path l lawful is =
-    subst (λ (lock : Option LockId). IsFullWalk (length s.threads) t lock u path) (asks-present s t (phases.Walk u (Full path)) l is)
-    (subst (IsWalkOf (length s.threads) t (present_lock (thread_part s t))) is.at.phased (lawful.walks t)).1
+    subst (λ (lock : Option LockId). IsFullWalk (length s.threads) (length s.locks) t lock u path) (asks-present s t (phases.Walk u (Full path)) l is)
+    (subst (IsWalkOf (length s.threads) (length s.locks) t (present_lock (thread_part s t))) is.at.phased (lawful.walks t)).1
 
 -- and so has one that is to be confirmed
-pub confirm-walk : (s : State) (made : ℕ) (t : TaskId) (path : List (ℕ × ℕ)) (l : LockId) → IsLawful s made → Asks s t (phases.Confirm path) l → IsToConfirm (length s.threads) t (Some l) path
+pub confirm-walk : (s : State) (made : ℕ) (t : TaskId) (path : List (ℕ × ℕ)) (l : LockId) → IsLawful s made → Asks s t (phases.Confirm path) l → IsToConfirm (length s.threads) (length s.locks) t (Some l) path
 confirm-walk s made t path l lawful is =
-    subst (λ (lock : Option LockId). IsToConfirm (length s.threads) t lock path) (asks-present s t (phases.Confirm path) l is)
-    (subst (IsWalkOf (length s.threads) t (present_lock (thread_part s t))) is.at.phased (lawful.walks t))
+    subst (λ (lock : Option LockId). IsToConfirm (length s.threads) (length s.locks) t lock path) (asks-present s t (phases.Confirm path) l is)
+    (subst (IsWalkOf (length s.threads) (length s.locks) t (present_lock (thread_part s t))) is.at.phased (lawful.walks t))
 
 -- it begins with the task and its lock, and leads to another task
 pub record IsRound (s : State) (t : TaskId) (l : LockId) (path : List (ℕ × ℕ)) : Type 0 where
@@ -162,7 +162,7 @@ pub record IsRound (s : State) (t : TaskId) (l : LockId) (path : List (ℕ × �
   pub there : owner.0 < length s.threads
   pub other : nat_eq t.0 owner.0 ≡ false
 
-round : (s : State) (t : TaskId) (l : LockId) (path : List (ℕ × ℕ)) → IsToConfirm (length s.threads) t (Some l) path → IsRound s t l path
+round : (s : State) (t : TaskId) (l : LockId) (path : List (ℕ × ℕ)) → IsToConfirm (length s.threads) (length s.locks) t (Some l) path → IsRound s t l path
 round s t l [] is = absurd is.begins
 round s t l (pair ∷ []) is = let many : 2 ≤ 1 = is.many in absurd (omega (arith, many))
 round s t l (pair ∷ second ∷ rest) is = record {
@@ -170,10 +170,13 @@ round s t l (pair ∷ second ∷ rest) is = record {
   next = record { 0 = second.1 };
   rest = rest;
   is = λ i. (is.begins.0 i, lock (sym is.begins.1) i) ∷ second ∷ rest;
-  there = All-head (λ (pair : ℕ × ℕ). pair.0 < length s.threads) second rest (All-tail (λ (pair : ℕ × ℕ). pair.0 < length s.threads) pair (second ∷ rest) is.there);
+  there = (All-head Within second rest (All-tail Within pair (second ∷ rest) is.there)).0;
   other = apart (is.differ 0 1 pair (omega arith) (omega arith));
 }
   where
+    Within : ℕ × ℕ → Type 0
+    Within pair = (pair.0 < length s.threads) × (pair.1 < length s.locks)
+
     lock : Some (record { 0 = pair.1 }) ≡ Some l → pair.1 ≡ l.0
     lock same = let one : record { 0 = pair.1 } ≡ l = cc in ap (λ (m : LockId). m.0) one
 

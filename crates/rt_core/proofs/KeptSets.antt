@@ -35,7 +35,7 @@ module _ (sh : Shared) (threads : List ThreadPart) (t : TaskId) (thread : Thread
 pub beyond : (s : State) (u : TaskId) → length s.threads ≤ u.0 → is_enabled s u.0 ≡ false
 beyond s u past = has-next s u ∙ by_call (call_of (thread_part s u)) refl
   where
-    by_call : (call : Option Call) → call_of (thread_part s u) ≡ call → can_at (thread_part s u) (task_part s u).state call ≡ false
+    by_call : (call : Option Call) → call_of (thread_part s u) ≡ call → can_at (thread_part s u) (task_part s u) call ≡ false
     by_call None is = refl
     by_call (Some call) is = let there = (at_call s u call is).1 in absurd (omega arith)
 

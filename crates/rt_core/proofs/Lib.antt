@@ -2,6 +2,7 @@ pub mod TaskBits
 pub mod KeptSets
 pub mod Prefixes
 pub mod PrefixesAll
+pub mod PathLinks
 pub mod OwnerParts
 pub mod SharedSteps
 pub mod Walked

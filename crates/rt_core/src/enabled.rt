@@ -1,18 +1,19 @@
-ghost use Rattle.std.specs.Prelude.{◌≡◌, ◌≤◌, ◌<◌, false, ◌&&◌, length, nat_eq, IfSome};
+ghost use Rattle.std.specs.Prelude.{◌≡◌, ◌≤◌, ◌<◌, false, ◌&&◌, length, nat_eq, Some, IfSome};
 ghost use Rattle.rt_model.specs.Order.{in_walk};
 ghost use Rattle.rt_model.specs.declared.phase.Phase.TheVariants.{Start};
 ghost use Rattle.rt_model.specs.Choice.{called_lock};
-ghost use Rattle.rt_model.specs.CanMove.{has_first, runs, can_go_on, can_in, can_move, IsOther, IsUninvolved};
+ghost use Rattle.rt_model.specs.Parts.{TaskPart, call_of};
+ghost use Rattle.rt_model.specs.CanMove.{has_first, can_go_on, can_in, can_move, IsOther, IsUninvolved};
 ghost use Rattle.rt_model.specs.Stage.{IsServed};
 ghost use Rattle.rt_core.specs.Core.{with_threads};
 ghost use Rattle.rt_core.specs.Enabled.{IsKeptAt, AreKept};
 
-use crate::next::own_answer;
+use crate::next::{is_awake, own_answer};
 use crate::shared::Shared;
 use crate::task_set::TaskSet;
 use crate::thread::Thread;
 use rt_base::limits::MAX_TASKS;
-use rt_base::{Call, LockId, TaskId, TaskState};
+use rt_base::{Call, TaskId};
 use rt_model::{Event, Phase};
 use rt_tasks::TaskCell;
 
@@ -99,14 +100,14 @@ fn can_move(thread: &Thread, task: &TaskCell) -> bool
     };
     match thread.phase() {
         Phase::Start => can_start(thread, &call),
-        phase => can_go_on(phase, task.state(), thread.called_lock(&call)),
+        phase => can_go_on(phase, thread, task, &call),
     }
 }
 
 // Whether a call has a first event.
 fn can_start(thread: &Thread, call: &Call) -> bool
     requires { IsServed MAX_TASKS (length thread.now.kinds) call.now }
-    ensures { (state : TaskState) → result ≡ can_in Start state thread.now call.now }
+    ensures { (task : TaskPart) → result ≡ can_in Start thread.now task call.now }
 {
     has_first(call) || own_answer(thread, call).is_some()
 }
@@ -117,18 +118,25 @@ fn has_first(call: &Call) -> bool
 {
     matches!(
         call,
-        Call::Lock(_) | Call::TryLock(_) | Call::Unlock(_) | Call::SetPrio(..)
+        Call::Lock(_)
+            | Call::LockInt(_)
+            | Call::TryLock(_)
+            | Call::Unlock(_)
+            | Call::Signal(_)
+            | Call::SetPrio(..)
     )
 }
 
 // Whether a call goes on that has made its first event.
-fn can_go_on(phase: &Phase, state: TaskState, lock: Option<LockId>) -> bool
-    ensures { result ≡ can_go_on phase.now state lock }
+fn can_go_on(phase: &Phase, thread: &Thread, task: &TaskCell, call: &Call) -> bool
+    requires call { call_of thread.now ≡ Some call.now }
+    requires known { IsServed MAX_TASKS (length thread.now.kinds) call.now }
+    ensures { result ≡ can_go_on phase.now thread.now task.now (called_lock thread.now.cpu call.now) }
 {
-    match (phase, lock) {
+    match (phase, thread.called_lock(call)) {
         (Phase::Slow, Some(_)) => true,
-        (Phase::Wait, Some(_)) => state == TaskState::Running,
-        (Phase::Walk(..), _) => true,
+        (Phase::Wait, Some(_)) => is_awake(call, task),
+        (Phase::Walk(..) | Phase::Confirm(_), _) => true,
         _ => false,
     }
 }

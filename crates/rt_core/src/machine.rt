@@ -19,7 +19,7 @@ ghost use Rattle.rt_core.specs.Core.{Made};
 
 use crate::effect::make;
 use crate::enabled::Enabled;
-use crate::next::{event_of, next_of};
+use crate::next::next_of;
 use crate::note::Note;
 use crate::playable::is_playable;
 use crate::report::{write_lock_line, write_task_line};
@@ -230,7 +230,7 @@ impl Core {
         ensures local { IfSome result (λ e. (s : State) → AgreeOn e self.now.state s → next_event s t ≡ Some e) }
         ensures none { result ≡ None → (s : State) → thread_part s t ≡ thread_part self.now.state t → task_part s t ≡ task_part self.now.state t → next_event s t ≡ None }
     {
-        event_of(next_of(&self.shared, t, self.thread(t)))
+        next_of(&self.shared, t, self.thread(t))
     }
 
     /// Makes an event: the next one of its task.

@@ -9,6 +9,7 @@ ghost use Rattle.rt_core.specs.Walking.{FindsCursor};
 
 mod acquire;
 mod chosen;
+mod confirm;
 mod event;
 mod own;
 mod release;
@@ -17,22 +18,24 @@ mod wakeups;
 mod walk;
 
 use crate::next::acquire::{acquire_event, try_event};
-pub use crate::next::chosen::{Chosen, event_of};
+use crate::next::chosen::{Chosen, event_of};
+use crate::next::confirm::confirmed_event;
 pub use crate::next::event::is_old;
 pub use crate::next::own::own_answer;
 use crate::next::own::own_event;
 use crate::next::release::release_event;
+pub use crate::next::wait::is_awake;
 use crate::next::wait::{queued_event, slow_event};
-use crate::next::wakeups::setprio_event;
+use crate::next::wakeups::{setprio_event, signal_event};
 use crate::next::walk::cursor_event;
 use crate::shared::Shared;
 use crate::thread::Thread;
 use rt_base::limits::MAX_TASKS;
-use rt_base::{Call, LockId, TaskId};
-use rt_model::Phase;
+use rt_base::{Call, TaskId};
+use rt_model::{Event, Phase};
 
 /// The event of a task with this thread, where it has one.
-pub fn next_of(shared: &Shared, t: TaskId, thread: &Thread) -> Option<Chosen>
+pub fn next_of(shared: &Shared, t: TaskId, thread: &Thread) -> Option<Event>
     requires task { t.0 < length shared.now.tasks }
     requires kinds { length thread.now.kinds ≡ length shared.now.locks }
     requires served { IfSome (call_of thread.now) (IsServed (length shared.now.tasks) (length shared.now.locks)) }
@@ -41,8 +44,8 @@ pub fn next_of(shared: &Shared, t: TaskId, thread: &Thread) -> Option<Chosen>
 {
     let call = thread.call()?;
     match thread.phase() {
-        Phase::Start => start_event(shared, t, thread, &call),
-        phase => later_event(phase, shared, t, thread, thread.called_lock(&call)),
+        Phase::Start => event_of(start_event(shared, t, thread, &call)),
+        phase => later_event(phase, shared, t, thread, &call),
     }
 }
 
@@ -68,12 +71,13 @@ fn first_event(shared: &Shared, t: TaskId, thread: &Thread, call: &Call) -> Opti
     ensures { result ≡ first_event shared.now t thread.now call.now }
 {
     match call {
-        Call::Lock(l) => Some(acquire_event(t, *l, shared.lock(*l))),
+        Call::Lock(l) | Call::LockInt(l) => Some(acquire_event(t, *l, shared.lock(*l))),
         Call::TryLock(l) => {
             let kind = thread.kind_of(*l);
             Some(try_event(t, *l, kind, shared.lock(*l), shared.task(t)))
         }
         Call::Unlock(l) => Some(release_event(t, *l, shared.lock(*l), shared.task(t))),
+        Call::Signal(u) => Some(signal_event(t, *u, shared.task(*u))),
         Call::SetPrio(u, prio) => Some(setprio_event(t, *u, *prio, shared.task(*u))),
         _ => None,
     }
@@ -85,21 +89,23 @@ fn later_event(
     shared: &Shared,
     t: TaskId,
     thread: &Thread,
-    lock: Option<LockId>,
-) -> Option<Chosen>
+    call: &Call,
+) -> Option<Event>
     requires task { t.0 < length shared.now.tasks }
     requires kinds { length thread.now.kinds ≡ length shared.now.locks }
-    requires lock { IfSome lock (λ l. l.0 < length thread.now.kinds) }
+    requires call { call_of thread.now ≡ Some call.now }
+    requires known { IsServed MAX_TASKS (length thread.now.kinds) call.now }
     requires cursor { FindsCursor shared.now phase.now }
-    ensures { result ≡ later_event phase.now shared.now t thread.now lock }
+    ensures { result ≡ later_event phase.now shared.now t thread.now (called_lock thread.now.cpu call.now) }
 {
-    match (phase, lock) {
-        (Phase::Slow, Some(l)) => Some(slow_event(shared, t, l, thread.kind_of(l))),
+    match (phase, thread.called_lock(call)) {
+        (Phase::Slow, Some(l)) => event_of(Some(slow_event(shared, t, l, thread.kind_of(l)))),
         (Phase::Wait, Some(l)) => {
             let kind = thread.kind_of(l);
-            queued_event(t, l, kind, shared.lock(l), shared.task(t))
+            event_of(queued_event(shared, t, l, kind, call))
         }
-        (Phase::Walk(cursor, route), _) => Some(cursor_event(shared, t, route, *cursor)),
+        (Phase::Walk(cursor, route), _) => event_of(Some(cursor_event(shared, t, route, *cursor))),
+        (Phase::Confirm(path), _) => confirmed_event(shared, t, path),
         _ => None,
     }
 }

@@ -7,13 +7,18 @@ ghost use Rattle.rt_base.specs.declared.kind.Kind.TheVariants.{Mutex};
 use rt_base::{Call, Kind, LockId, TaskId};
 use rt_script::Script;
 
-/// Whether a call takes or releases a mutex, or sets a priority.
+/// Whether a call takes or releases a mutex, sends a signal, or sets a priority.
 fn is_played(call: &Call) -> bool
     ensures { IsTrue result ↔ IsPlayed call.now }
 {
     matches!(
         call,
-        Call::Lock(_) | Call::TryLock(_) | Call::Unlock(_) | Call::SetPrio(..)
+        Call::Lock(_)
+            | Call::LockInt(_)
+            | Call::TryLock(_)
+            | Call::Unlock(_)
+            | Call::Signal(_)
+            | Call::SetPrio(..)
     )
 }
 
@@ -48,7 +53,7 @@ fn has_mutexes(script: &Script) -> bool
     true
 }
 
-/// Whether its tasks only take and release mutexes, and set priorities.
+/// Whether its tasks only take and release mutexes, send signals, and set priorities.
 fn calls_played(script: &Script) -> bool
     ensures { IsTrue result ↔ All (λ (line : TaskLine). All IsPlayed line.calls) script.now.tasks }
 {
@@ -60,7 +65,8 @@ fn calls_played(script: &Script) -> bool
     true
 }
 
-/// Whether the script's locks are all mutexes, and its tasks take and release them and set priorities.
+/// Whether the script's locks are all mutexes, and its tasks take and release them, send signals and set
+/// priorities.
 pub fn is_playable(script: &Script) -> bool
     ensures { IsTrue result ↔ IsPlayable script.now }
 {

@@ -7,8 +7,9 @@ use Rattle.rt_base.specs.declared.id.LockId.{LockId}
 use Rattle.rt_base.specs.declared.id.TaskId.{TaskId}
 use Rattle.rt_model.specs.declared.event_kind.EventKind.{EventKind}
 use Rattle.rt_model.specs.declared.event_kind.EventKind.TheVariants as kinds
+use Rattle.rt_model.specs.Path.{first_lock}
 use Rattle.rt_events.specs.declared.entry.Entry.{Entry}
-use Rattle.rt_events.specs.WellFormed.{IsTaskIn, IsLockIn, IsLinkIn, first_lock, HasLock, HasOther, HasWoken, HasPath, IsWellFormed, IsNamedIn}
+use Rattle.rt_events.specs.WellFormed.{IsTaskIn, IsLockIn, IsLinkIn, HasLock, HasOther, HasWoken, HasPath, IsWellFormed, IsNamedIn}
 
 -- what isn't there names nothing, and what has to be there may be
 none_named : {A : Type 0} (P : A → Type 0) (o : Option A) → o ≡ None → IfSome o P

@@ -1,12 +1,13 @@
 -- Entries that are well formed for a script: what a kind's line prints is there and the script's, and what it doesn't print
 -- is what the printed fields give, or nothing.
-use Rattle.std.specs.Prelude.{◌≡◌, ℕ, ◌<◌, ◌≤◌, ◌^◌, List, [], ◌∷◌, length, Option, Some, None, IsSomeAnd, IfSome, All}
+use Rattle.std.specs.Prelude.{◌≡◌, ℕ, ◌<◌, ◌≤◌, ◌^◌, List, [], length, None, IsSomeAnd, IfSome, All}
 use Rattle.rt_base.specs.Script.{Script}
 use Rattle.rt_base.specs.declared.limits.TheConstants.{MAX_PRIO, MAX_TASKS}
 use Rattle.rt_base.specs.declared.id.LockId.{LockId}
 use Rattle.rt_base.specs.declared.id.TaskId.{TaskId}
 use Rattle.rt_model.specs.declared.event_kind.EventKind.{EventKind}
 use Rattle.rt_model.specs.declared.event_kind.EventKind.TheVariants as kinds
+use Rattle.rt_model.specs.Path.{first_lock}
 use Rattle.rt_events.specs.declared.entry.Entry.{Entry}
 
 abbrev pub IsTaskIn : Script → TaskId → Type 0
@@ -18,11 +19,6 @@ IsLockIn script l = l.0 < length script.locks
 -- a link of a path, a task and a lock
 abbrev pub IsLinkIn : Script → ℕ × ℕ → Type 0
 IsLinkIn script link = (link.0 < length script.tasks) × (link.1 < length script.locks)
-
--- the lock of a path's first link
-abbrev pub first_lock : List (ℕ × ℕ) → Option LockId
-first_lock [] = None
-first_lock (link ∷ links) = Some (record { 0 = link.1 })
 
 -- the lock: the path's first one for a cycle; not always there for a thread's own answer
 abbrev pub HasLock : EventKind → Script → Entry → Type 0

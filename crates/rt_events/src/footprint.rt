@@ -3,10 +3,12 @@ ghost use Rattle.std.specs.Prelude.{◌≡◌, ◌↔◌, Bool, true, false, Non
 ghost use Rattle.std.specs.List.{list_any};
 ghost use Rattle.rt_model.specs.Footprint.{same_object, owner_parts, reader_parts, tasks_of, along, objects_of, footprint, touches};
 ghost use Rattle.rt_model.specs.Rules.{touched};
+ghost use Rattle.rt_model.specs.Path.{first_owner};
 ghost use Rattle.rt_model.specs.events.Acquire.{busy_touched};
 ghost use Rattle.rt_model.specs.declared.obj.Obj.{Obj};
 ghost use Rattle.rt_events.specs.Touched.{path_tasks, Tells};
 
+use crate::first_link::first_owner;
 use rt_base::{LockId, Path, TaskId};
 use rt_model::{Event, EventKind, Obj};
 
@@ -75,7 +77,10 @@ fn any_besides<F: Fn(Obj) -> bool>(e: &Event, test: &F) -> bool
         }
         EventKind::WTake => any_reader_part(e.lock, test) || any_task(e.owner, test),
         EventKind::WSleep => any_reader_part(e.lock, test) || any_task(own, test),
-        EventKind::Restart | EventKind::Cycle => any_along(&e.path, test),
+        EventKind::Restart => any_along(&e.path, test),
+        EventKind::Cycle => {
+            any_owner_part(e.lock, test) || any_task(own, test) || any_of_cycle(&e.path, test)
+        }
         EventKind::State | EventKind::Sched => any_task(own, test),
         EventKind::WalkEnd | EventKind::Wake | EventKind::SetPrio => any_task(e.other, test),
         EventKind::Own => false,
@@ -88,6 +93,15 @@ fn any_walked<F: Fn(Obj) -> bool>(e: &Event, test: &F) -> bool
     ensures { (passes : Obj → Bool) → Tells (F.post test.now) passes → result ≡ list_any passes (tasks_of e.now.owner ++ (tasks_of e.now.other ++ tasks_of e.now.woken)) }
 {
     any_task(e.owner, test) || any_task(e.other, test) || any_task(e.woken, test)
+}
+
+// Whether a task of a cycle's path passes a test, the owner of its first lock before the others, or that
+// lock.
+fn any_of_cycle<F: Fn(Obj) -> bool>(path: &Path, test: &F) -> bool
+    requires { F.IsAlwaysCallable test.now }
+    ensures { (passes : Obj → Bool) → Tells (F.post test.now) passes → result ≡ list_any passes (tasks_of (first_owner path.now) ++ along path.now) }
+{
+    any_task(first_owner(path), test) || any_along(path, test)
 }
 
 // Whether what a busy call looks at passes a test: the reader part where it reads; else the owner part,

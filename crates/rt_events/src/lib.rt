@@ -3,6 +3,7 @@
 
 mod appending;
 mod entry;
+mod first_link;
 mod footprint;
 mod journal;
 mod line;
@@ -14,6 +15,7 @@ mod words;
 
 pub use appending::{append, push_byte, push_digits, push_number, push_word};
 pub use entry::{Entry, entry_of};
+pub use first_link::{first_lock, first_owner};
 pub use footprint::{disjoint, touches};
 pub use journal::{write_end_line, write_header};
 pub use line::write_line;

@@ -220,6 +220,17 @@ fn entry_of_another_shape_is_not_well_formed(rt: HostRuntime) -> Result<(), Fail
     Ok(())
 }
 
+#[test]
+fn path_has_a_first_link(rt: HostRuntime) {
+    let mut path = Path::empty();
+    assert_eq!(rt; (first_lock(&path), first_owner(&path)), (None, None));
+    path.push(A, M);
+    assert_eq!(rt; (first_lock(&path), first_owner(&path)), (Some(M), Some(A)));
+    path.push(B, CELL);
+    path.push(C, X);
+    assert_eq!(rt; (first_lock(&path), first_owner(&path)), (Some(M), Some(B)));
+}
+
 // The objects that are asked for.
 const ALL: [Obj; 9] = [
     Obj::OwnerPart(M),
@@ -255,7 +266,7 @@ fn each_kind_has_its_footprint(rt: HostRuntime) {
         (Walk, [lock, other, owner, woken].as_slice()),
         (WalkEnd, [other].as_slice()),
         (Restart, [first, own, other].as_slice()),
-        (Cycle, [first, own, other].as_slice()),
+        (Cycle, [lock, first, own, other].as_slice()),
         (Again, [lock, own].as_slice()),
         (Leave, [lock, own, owner].as_slice()),
         (Give, [lock, own, woken].as_slice()),

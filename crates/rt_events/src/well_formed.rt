@@ -1,8 +1,9 @@
 // Whether an entry is well formed: what its kind's line prints is there, and nothing else.
 ghost use Rattle.std.specs.Prelude.{◌≡◌, ◌↔◌, ◌≤◌, None, IsTrue, IsSomeAnd, IfSome, All};
-ghost use Rattle.rt_events.specs.WellFormed.{IsTaskIn, IsLockIn, IsLinkIn, first_lock, HasLock, HasOther, HasWoken, HasValue, HasPath, IsWellFormed};
+ghost use Rattle.rt_events.specs.WellFormed.{IsTaskIn, IsLockIn, IsLinkIn, HasLock, HasOther, HasWoken, HasValue, HasPath, IsWellFormed};
 
 use crate::entry::Entry;
+use crate::first_link::first_lock;
 use rt_base::limits::MAX_PRIO;
 use rt_base::{LockId, Path, Prio, TaskId};
 use rt_model::EventKind;
@@ -120,16 +121,6 @@ fn has_value(kind: EventKind, value: u8) -> bool
         EventKind::SetPrio => value <= MAX_PRIO,
         _ => value == 0,
     }
-}
-
-// The lock of a path's first link.
-fn first_lock(path: &Path) -> Option<LockId>
-    ensures { result ≡ first_lock path.now }
-{
-    if path.len() == 0 {
-        return None;
-    }
-    Some(path.at(0).1)
 }
 
 fn has_path(script: &Script, kind: EventKind, path: &Path) -> bool

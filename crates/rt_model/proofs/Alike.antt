@@ -4,6 +4,7 @@ use Rattle.rt_base.specs.declared.id.LockId.{LockId}
 use Rattle.rt_base.specs.declared.id.TaskId.{TaskId}
 use Rattle.rt_model.specs.declared.event.Event.{Event}
 use Rattle.rt_model.specs.declared.obj.Obj.TheVariants as objects
+use Rattle.rt_model.specs.Parts.{TaskPart}
 use Rattle.rt_model.specs.State.{Shared, lock_in, lock_at, readers_in, readers_at, task_in, task_at}
 use Rattle.rt_model.specs.Effect.{around}
 use Rattle.rt_model.specs.Rules.{touched}
@@ -17,7 +18,7 @@ pub record Alike (e : Event) (a b : Shared) : Type 0 where
 
 -- ---- what is around the event
 
-same-lock_at : (a b : Shared) (named : Option LockId) → ((l : LockId) → named ≡ Some l → lock_in b l ≡ lock_in a l) → lock_at b named ≡ lock_at a named
+pub same-lock_at : (a b : Shared) (named : Option LockId) → ((l : LockId) → named ≡ Some l → lock_in b l ≡ lock_in a l) → lock_at b named ≡ lock_at a named
 same-lock_at a b None same = refl
 same-lock_at a b (Some l) same = same l refl
 
@@ -49,3 +50,8 @@ pub gives_alike : (f : Shared → Event) (a b : Shared) → (Alike (f a) a b →
 gives_alike f a b same e is alike =
     let event : f a ≡ e = cc in
     ap Some (same (subst (λ (x : Event). Alike x a b) (sym event) alike) ∙ event)
+
+-- an event that acts on a task, and is told by it alone
+pub same-other : (a b : Shared) (u : TaskId) (f : TaskPart → Event)
+    → (touched (f (task_in a u)).kind (f (task_in a u))).other ≡ Some u → Alike (f (task_in a u)) a b → f (task_in b u) ≡ f (task_in a u)
+same-other a b u f named alike = ap f (alike.task u (touches-other (f (task_in a u)) u named))

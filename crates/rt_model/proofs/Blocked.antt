@@ -13,7 +13,7 @@ use Rattle.rt_model.specs.Effect.{Around, around}
 use Rattle.rt_model.specs.Rules.{touched, effect}
 use Rattle.rt_model.specs.StateAfter.{state_after}
 use Rattle.rt_model.specs.laws.Shape.{IsShaped}
-use Rattle.rt_model.proofs.CellStepLemmas.{leave_queue-blocked, with_top-blocked, lock_woken-like, where_changed-blocked, rekeyed-blocking}
+use Rattle.rt_model.proofs.CellStepLemmas.{leave_queue-blocked, with_top-blocked, woken_by-like, lock_woken-like, where_changed-blocked, rekeyed-blocking}
 use Rattle.rt_model.proofs.Numbers.{other_number}
 use Rattle.rt_model.proofs.PartsAfter.{OthersKeep, lock-kept, task-keeps, other-keeps, own-made}
 use Rattle.rt_model.proofs.Waiters.{blocking}
@@ -25,6 +25,8 @@ use Rattle.rt_model.proofs.events.Wait.{IsWait}
 abbrev pub moves : EventKind → Bool
 moves kinds.Take = true
 moves kinds.Wait = true
+moves kinds.Leave = true
+moves kinds.Cycle = true
 moves kinds.Walk = true
 moves _ = false
 
@@ -38,6 +40,8 @@ requeues _ = false
 rows-left : (kind : EventKind) (e : Event) (th : ThreadPart) (found : Around) → moves kind ≡ false → (lock : OwnerPart) → ((effect kind e th found).lock lock).rows ≡ lock.rows
 rows-left kinds.Take e th found is lock = cc
 rows-left kinds.Wait e th found is lock = cc
+rows-left kinds.Leave e th found is lock = cc
+rows-left kinds.Cycle e th found is lock = cc
 rows-left kinds.Walk e th found is lock = cc
 rows-left _ e th found is lock = refl
 
@@ -45,12 +49,17 @@ blocked-own : (b : Option (LockId × ℕ)) (kind : EventKind) (e : Event) (th : 
     → (found : Around) (lock : OwnerPart) (task : TaskPart) → task.blocked ≡ b → ((effect kind e th found).own lock task).blocked ≡ b
 blocked-own b kinds.Take e th is found lock task was = cc
 blocked-own b kinds.Wait e th is found lock task was = cc
+blocked-own b kinds.Leave e th is found lock task was = cc
+blocked-own b kinds.Cycle e th is found lock task was = cc
 blocked-own b kinds.Give e th is found lock task was = with_top-blocked e.lock _ task ∙ was
 blocked-own b _ e th is found lock task was = was
 
 blocked-others : (b : Option (LockId × ℕ)) (kind : EventKind) (e : Event) (th : ThreadPart) → requeues kind ≡ false → (found : Around) (lock : OwnerPart) → OthersKeep (λ task. task.blocked ≡ b) (effect kind e th found) lock
 blocked-others b kinds.Walk e th is found lock = cc
 blocked-others b kinds.Wait e th is found lock = record { owner = λ task was. with_top-blocked e.lock _ task ∙ was; other = λ task was. was; woken = λ task was. was }
+blocked-others b kinds.Leave e th is found lock = record { owner = λ task was. with_top-blocked e.lock _ task ∙ was; other = λ task was. was; woken = λ task was. was }
+blocked-others b kinds.Cycle e th is found lock = record { owner = λ task was. with_top-blocked e.lock _ task ∙ was; other = λ task was. was; woken = λ task was. was }
+blocked-others b kinds.Wake e th is found lock = record { owner = λ task was. was; other = λ task was. (woken_by-like e.value task).blocked ∙ was; woken = λ task was. was }
 blocked-others b kinds.Give e th is found lock = record { owner = λ task was. was; other = λ task was. was; woken = λ task was. (lock_woken-like (spins (kind_named th e.lock)) task).blocked ∙ was }
 blocked-others b _ e th is found lock = record { owner = λ task was. was; other = λ task was. was; woken = λ task was. was }
 
@@ -58,12 +67,16 @@ blocked-others b _ e th is found lock = record { owner = λ task was. was; other
 abbrev pub changes_own : EventKind → Bool
 changes_own kinds.Take = true
 changes_own kinds.Wait = true
+changes_own kinds.Leave = true
+changes_own kinds.Cycle = true
 changes_own _ = false
 
 blocking-own : (b : Option LockId) (kind : EventKind) (e : Event) (th : ThreadPart) → changes_own kind ≡ false
     → (found : Around) (lock : OwnerPart) (task : TaskPart) → blocking task.blocked ≡ b → blocking ((effect kind e th found).own lock task).blocked ≡ b
 blocking-own b kinds.Take e th is found lock task was = cc
 blocking-own b kinds.Wait e th is found lock task was = cc
+blocking-own b kinds.Leave e th is found lock task was = cc
+blocking-own b kinds.Cycle e th is found lock task was = cc
 blocking-own b kinds.Give e th is found lock task was = ap blocking (with_top-blocked e.lock _ task) ∙ was
 blocking-own b _ e th is found lock task was = was
 
@@ -74,6 +87,9 @@ blocking-others b kinds.Walk e th found lock = record {
   woken = λ task was. ap blocking (lock_woken-like (spins (kind_named th e.lock)) task).blocked ∙ was;
 }
 blocking-others b kinds.Wait e th found lock = record { owner = λ task was. ap blocking (with_top-blocked e.lock _ task) ∙ was; other = λ task was. was; woken = λ task was. was }
+blocking-others b kinds.Leave e th found lock = record { owner = λ task was. ap blocking (with_top-blocked e.lock _ task) ∙ was; other = λ task was. was; woken = λ task was. was }
+blocking-others b kinds.Cycle e th found lock = record { owner = λ task was. ap blocking (with_top-blocked e.lock _ task) ∙ was; other = λ task was. was; woken = λ task was. was }
+blocking-others b kinds.Wake e th found lock = record { owner = λ task was. was; other = λ task was. ap blocking (woken_by-like e.value task).blocked ∙ was; woken = λ task was. was }
 blocking-others b kinds.Give e th found lock = record { owner = λ task was. was; other = λ task was. was; woken = λ task was. ap blocking (lock_woken-like (spins (kind_named th e.lock)) task).blocked ∙ was }
 blocking-others b _ e th found lock = record { owner = λ task was. was; other = λ task was. was; woken = λ task was. was }
 
@@ -120,5 +136,5 @@ take-blocked s t e l shaped is =
 pub wait-blocked : (s : State) (t : TaskId) (e : Event) (l : LockId) → IsShaped s → IsWait s t l e → (task_part (state_after s e) t).blocked ≡ Some (l, effective_of (task_part s t))
 wait-blocked s t e l shaped is =
     let at : Option (LockId × ℕ) = Some (l, effective_of (task_part s t)) in
-    own-made (λ v task. task.blocked ≡ at) s e _ t t is.event refl (task_room s t shaped is.at.task)
+    own-made (λ v task. task.blocked ≡ at) s e _ t t is.event refl (task_room s t shaped is.at.at.task)
     (record { owner = λ task was. was; other = λ task was. was; woken = λ task was. was }) refl (λ ne. absurd (other_number t.0 t.0 ne refl))

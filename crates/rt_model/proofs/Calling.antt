@@ -1,13 +1,18 @@
 -- What a state says of a task that is at a call.
-use Rattle.std.proofs.Common.{◌≡◌, ◌⊎◌, inl, inr, ◌<◌, ◌≤◌, get_or, length, refl, Some, None, All}
-use Rattle.std.specs.Prelude.{slice_get}
+use Rattle.std.proofs.Common.{◌≡◌, ◌⊎◌, inl, inr, ◌<◌, ◌≤◌, get_or, length, refl, sym, ap, ◌∙◌, subst, Option, Some, None, All}
+use Rattle.std.specs.Prelude.{true, slice_get, option_and_then}
 use Rattle.std.proofs.lemmas.Option.{slice_get_cases}
 use Rattle.rt_base.specs.declared.call.Call.{Call}
+use Rattle.rt_base.specs.declared.call.Call.TheVariants as calls
+use Rattle.rt_base.specs.declared.id.Cpu.{Cpu}
+use Rattle.rt_base.specs.declared.id.LockId.{LockId}
 use Rattle.rt_base.specs.declared.id.TaskId.{TaskId}
 use Rattle.rt_model.specs.declared.phase.Phase.{Phase}
 use Rattle.rt_model.specs.Parts.{ThreadPart, call_of}
 use Rattle.rt_model.specs.State.{State, thread_part}
-use Rattle.rt_model.specs.Stage.{IsServed, IsStaged}
+use Rattle.rt_model.specs.Choice.{called_lock}
+use Rattle.rt_model.specs.Stage.{IsServed, IsStaged, waits}
+use Rattle.rt_model.specs.laws.Queued.{present_lock}
 use Rattle.rt_model.proofs.Lists.{All-at, slice_get-index}
 
 -- a task with a call is one of the state
@@ -38,3 +43,56 @@ pub record IsIn (s : State) (t : TaskId) (phase : Phase) (call : Call) : Type 0 
 -- the thread that was read is the task's
 pub thread_part-index : (s : State) (t : TaskId) (thread : ThreadPart) → t.0 < length s.threads → thread ≡ get_or s.threads t.0 thread → thread_part s t ≡ thread
 thread_part-index s t thread lt is = rw (slice_get-index s.threads t.0 thread lt is) refl
+
+-- ---- a task that waits for a lock
+
+-- the call waits for the lock
+pub data WaitsFor (call : Call) (l : LockId) : Type 0 where
+  by_lock : call ≡ calls.Lock l → WaitsFor call l
+  by_lockint : call ≡ calls.LockInt l → WaitsFor call l
+
+-- the task is in this phase of a call that waits for the lock
+pub record Asks (s : State) (t : TaskId) (phase : Phase) (l : LockId) : Type 0 where
+  pub call : Call
+  pub waits_for : WaitsFor call l
+  pub at : IsIn s t phase call
+
+-- what holds of the two calls holds of each that waits
+pub waits-holds : (P : Call → Type 0) (call : Call) (l : LockId) → WaitsFor call l → P (calls.Lock l) → P (calls.LockInt l) → P call
+waits-holds P call l (by_lock is) lock lockint = subst P (sym is) lock
+waits-holds P call l (by_lockint is) lock lockint = subst P (sym is) lockint
+
+-- it is about that lock, and is one that waits
+pub waits-called : (cpu : Cpu) (call : Call) (l : LockId) → WaitsFor call l → called_lock cpu call ≡ Some l
+waits-called cpu call l is = waits-holds (λ c. called_lock cpu c ≡ Some l) call l is refl refl
+
+pub waits-waits : (call : Call) (l : LockId) → WaitsFor call l → waits call ≡ true
+waits-waits call l is = waits-holds (λ c. waits c ≡ true) call l is refl refl
+
+pub asks-present : (s : State) (t : TaskId) (phase : Phase) (l : LockId) → Asks s t phase l → present_lock (thread_part s t) ≡ Some l
+asks-present s t phase l is = ap (λ (call : Option Call). option_and_then (called_lock (thread_part s t).cpu) call) is.at.calling ∙ waits-called (thread_part s t).cpu is.call l is.waits_for
+
+pub asks-lock : (s : State) (t : TaskId) (phase : Phase) (l : LockId) → Asks s t phase l → l.0 < length s.locks
+asks-lock s t phase l is =
+    waits-holds (λ c. IsServed (length s.threads) (length s.locks) c → l.0 < length s.locks) is.call l is.waits_for (λ served. served) (λ served. served) is.at.served
+
+pub asks-waits : (s : State) (t : TaskId) (phase : Phase) (l : LockId) → (is : Asks s t phase l) → waits is.call ≡ true
+asks-waits s t phase l is = waits-waits is.call l is.waits_for
+
+-- a call that waits does so for some lock
+waited_for : (call : Call) → waits call ≡ true → (l : LockId) × WaitsFor call l
+waited_for (calls.Lock l) is = (l, by_lock refl)
+waited_for (calls.LockInt l) is = (l, by_lockint refl)
+waited_for _ is = cc
+
+pub asked : (s : State) (t : TaskId) (phase : Phase) (call : Call) → IsIn s t phase call → waits call ≡ true → (l : LockId) × Asks s t phase l × (called_lock (thread_part s t).cpu call ≡ Some l)
+asked s t phase call at is =
+    let some = waited_for call is in
+    (some.0, record { call = call; waits_for = some.1; at = at }, waits-called (thread_part s t).cpu call some.0 some.1)
+
+-- and so for the lock that it is about
+pub waits-about : (cpu : Cpu) (call : Call) (l : LockId) → waits call ≡ true → called_lock cpu call ≡ Some l → WaitsFor call l
+waits-about cpu call l is about =
+    let some = waited_for call is in
+    let same : some.0 ≡ l = let also = waits-called cpu call some.0 some.1 in cc in
+    subst (WaitsFor call) same some.1

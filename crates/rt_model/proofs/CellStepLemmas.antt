@@ -1,5 +1,5 @@
 -- What the named steps leave of a task.
-use Rattle.std.proofs.Common.{◌≡◌, ℕ, Bool, true, false, cond, not, refl, sym, ap, ◌∙◌, Option, Some, None, List, length, length-set}
+use Rattle.std.proofs.Common.{◌≡◌, ℕ, zero, suc, Bool, true, false, cond, not, refl, sym, ap, ◌∙◌, Option, Some, None, List, length, length-set}
 use Rattle.std.specs.Prelude.{is_some, option_map, nat_eq}
 use Rattle.std.proofs.lemmas.Bool.{cond_both, not-false}
 use Rattle.rt_base.specs.declared.id.LockId.{LockId}
@@ -8,7 +8,7 @@ use Rattle.rt_base.specs.declared.state.TaskState.TheVariants as states
 use Rattle.rt_model.specs.Parts.{TaskPart, least, keys_in, effective_of}
 use Rattle.rt_model.specs.declared.row.Row.{Row}
 use Rattle.rt_model.specs.Rows.{top_key, top_changed}
-use Rattle.rt_model.specs.steps.Task.{saved_for, blocked_on, restored, leave_queue, woken_up, lock_woken, sleeps, with_top, refreshed}
+use Rattle.rt_model.specs.steps.Task.{saved_for, blocked_on, restored, leave_queue, interrupted, woken_up, signalled, woken_by, lock_woken, sleeps, is_interruptible, with_top, refreshed}
 use Rattle.rt_model.specs.steps.Chain.{is_old, has_old_key, rekeyed, refreshed_where_changed}
 use Rattle.rt_model.proofs.Numbers.{same_number}
 
@@ -39,6 +39,13 @@ leave_queue-like spinning task =
     cond_both (is_some task.blocked) (record (restored spinning task) { blocked = None }) task (IsLike task)
     (λ is. record { own = rested.own; kept = rested.kept }) (λ is. record { own = refl; kept = refl })
 
+-- and the same where a signal ended the wait
+pub interrupted-blocked : (spinning : Bool) (task : TaskPart) → (interrupted spinning task).blocked ≡ None
+interrupted-blocked spinning task = leave_queue-blocked spinning task
+
+pub interrupted-like : (spinning : Bool) (task : TaskPart) → IsLike task (interrupted spinning task)
+interrupted-like spinning task = let left = leave_queue-like spinning task in record { own = left.own; kept = left.kept }
+
 -- ---- woken
 
 -- a task that is woken has the same lock that it is blocked on
@@ -53,6 +60,18 @@ woken_up-like task =
     (λ is. cond_both (sleeps task.saved) (record task { saved = states.Running }) task (IsWoken task)
     (λ saved. record { like = record { own = refl; kept = refl }; blocked = refl })
     (λ not_saved. record { like = record { own = refl; kept = refl }; blocked = refl }))
+
+pub signalled-like : (task : TaskPart) → IsWoken task (signalled task)
+signalled-like task =
+    cond_both (is_interruptible task.state) (record task { signal = true; state = states.Running }) (cond (is_interruptible task.saved) (record task { signal = true; saved = states.Running }) (record task { signal = true })) (IsWoken task)
+    (λ is. record { like = record { own = refl; kept = refl }; blocked = refl })
+    (λ is. cond_both (is_interruptible task.saved) (record task { signal = true; saved = states.Running }) (record task { signal = true }) (IsWoken task)
+    (λ saved. record { like = record { own = refl; kept = refl }; blocked = refl })
+    (λ not_saved. record { like = record { own = refl; kept = refl }; blocked = refl }))
+
+pub woken_by-like : (n : ℕ) (task : TaskPart) → IsWoken task (woken_by n task)
+woken_by-like zero task = woken_up-like task
+woken_by-like (suc n) task = signalled-like task
 
 pub lock_woken-like : (spinning : Bool) (task : TaskPart) → IsWoken task (lock_woken spinning task)
 lock_woken-like true task = record { like = record { own = refl; kept = refl }; blocked = refl }

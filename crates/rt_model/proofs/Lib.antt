@@ -20,9 +20,12 @@ pub mod Uninvolved
 -- what a lawful state says of a task
 pub mod Within
 pub mod Waiters
+pub mod PathLinks
 pub mod Named
--- what a link of a walk leaves, a walk's end, and a setprio; how a walk goes on, its path, and which events change an owner
+-- what a link of a walk leaves, a walk's end, a restart, a signal and a setprio, and a wait that ends without the lock; how a walk
+-- goes on, its path, and which events change an owner
 pub mod Links
+pub mod Leaves
 pub mod Routes
 pub mod Paths
 pub mod Owned

@@ -1,5 +1,5 @@
--- What a link of a walk leaves, a walk's end, and a setprio.
-use Rattle.std.proofs.Common.{◌≡◌, ℕ, ◌<◌, Bool, true, false, cond, List, length, refl, sym, ap, ◌∙◌, subst, Option, Some, None, IfSome, ◌&&◌, is_none}
+-- What a link of a walk leaves, a walk's end, a restart, a signal and a setprio.
+use Rattle.std.proofs.Common.{◌≡◌, ℕ, ◌<◌, Bool, true, false, cond, List, [], length, refl, sym, ap, ◌∙◌, subst, Option, Some, None, IfSome, ◌&&◌, is_none}
 use Rattle.std.specs.Prelude.{nat_eq}
 use Rattle.std.proofs.lemmas.Bool.{cond-true, cond-false, cond_both}
 use Rattle.rt_base.specs.Kind.{spins}
@@ -8,31 +8,32 @@ use Rattle.rt_base.specs.declared.id.TaskId.{TaskId}
 use Rattle.rt_base.specs.declared.reply.Reply.TheVariants.{Done}
 use Rattle.rt_model.specs.declared.event.Event.{Event}
 use Rattle.rt_model.specs.declared.phase.Phase.{Phase}
+use Rattle.rt_model.specs.declared.phase.Phase.TheVariants.{Walk}
 use Rattle.rt_model.specs.declared.phase.Route.{Route}
-use Rattle.rt_model.specs.declared.phase.Route.TheVariants.{Short}
+use Rattle.rt_model.specs.declared.phase.Route.TheVariants.{Full, Short}
 use Rattle.rt_model.specs.declared.row.Row.{Row}
 use Rattle.rt_model.specs.Parts.{OwnerPart, TaskPart, ThreadPart, effective_of, kind_of}
 use Rattle.rt_model.specs.Rows.{top_changed, top_task}
+use Rattle.rt_model.specs.Path.{Link}
 use Rattle.rt_model.specs.State.{State, shared, task_at, owner_part, task_part, thread_part}
 use Rattle.rt_model.specs.steps.Lock.{requeued}
-use Rattle.rt_model.specs.steps.Task.{with_own, lock_woken}
+use Rattle.rt_model.specs.steps.Task.{with_own, lock_woken, signalled, signal_answer}
 use Rattle.rt_model.specs.steps.Thread.{answered_with}
 use Rattle.rt_model.specs.steps.Chain.{has_old_key, requeued_where_old, rekeyed, refreshed_where_changed, newly_top, followed, goes_on, phase_of_walk, answer_of_walk}
-use Rattle.rt_model.specs.events.Walk.{walkend_event, walk_event, phase_after_link, phase_after_end}
-use Rattle.rt_model.specs.events.Wakeups.{setprio_event}
+use Rattle.rt_model.specs.events.Walk.{walkend_event, walk_event, phase_after_link, phase_after_end, restart_event}
+use Rattle.rt_model.specs.events.Wakeups.{signal_event, setprio_event}
 use Rattle.rt_model.specs.Rules.{touched}
-use Rattle.rt_model.specs.StateAfter.{thread_after, state_after}
+use Rattle.rt_model.specs.StateAfter.{effect_in, lock_left, thread_after, state_after}
 use Rattle.rt_model.specs.laws.Lawful.{IsLawful}
 use Rattle.rt_model.specs.laws.Owners.{owned_by}
 use Rattle.rt_model.specs.laws.Shape.{IsShaped, IsWithin}
 use Rattle.rt_model.proofs.CellStepLemmas.{IsLike, IsWoken, lock_woken-like, rekeyed-like, rekeyed-at, where_changed-blocked}
-use Rattle.rt_model.proofs.NextEvents.{by_walk}
-use Rattle.rt_model.proofs.Named.{within}
+use Rattle.rt_model.proofs.Named.{of_walk}
 use Rattle.rt_model.proofs.Numbers.{number_itself, other_way}
-use Rattle.rt_model.proofs.PartsAfter.{SlotsThere, slots-made, task-keeps, lock-made, locks-kept}
+use Rattle.rt_model.proofs.PartsAfter.{SlotsThere, slots-made, other-made, task-keeps, lock-made, locks-kept}
 use Rattle.rt_model.proofs.Waiters.{IsLink, walk-link, walk-phase}
-use Rattle.rt_model.proofs.events.Walk.{IsWalk, IsWalkEnd, is_walk}
-use Rattle.rt_model.proofs.events.Wakeups.{IsSetPrio}
+use Rattle.rt_model.proofs.events.Walk.{IsWalk, IsWalkEnd, is_walk, IsRestart}
+use Rattle.rt_model.proofs.events.Wakeups.{IsSignal, IsSetPrio}
 
 -- a thread whose walk goes on to this phase, or ends
 abbrev pub walked_thread : ThreadPart → Route → Option Phase → ThreadPart
@@ -73,7 +74,7 @@ module _ (s : State) (made : ℕ) (t : TaskId) (route : Route) (u : TaskId) (l :
   link_woken = newly_top (owner_part s l) link_lock
 
   abbrev pub link_next : Option Phase
-  link_next = goes_on (followed u l route) (owner_part s l).owner (link_owner (task_at (shared s) (owner_part s l).owner))
+  link_next = goes_on t (followed u l route) (owner_part s l).owner (link_owner (task_at (shared s) (owner_part s l).owner))
 
   there : IsLink s u l
   there = walk-link s made t route u l key e lawful is
@@ -92,7 +93,7 @@ module _ (s : State) (made : ℕ) (t : TaskId) (route : Route) (u : TaskId) (l :
   -- the tasks that it names are there
   pub link-slots : SlotsThere (touched link_made.kind link_made) (length s.tasks)
   link-slots =
-      let names = subst (IsWithin (length s.threads) (length s.locks)) is.event (within s made t e lawful (by_walk route u (is_walk l key is))) in
+      let names = subst (IsWithin (length s.threads) (length s.locks)) is.event (of_walk s made t e lawful route u (is_walk l key is)) in
       slots_there s link_made lawful.shape names.owner names.other names.woken
 
   pub link-task : (v : TaskId) → task_part (state_after s e) v ≡ link_task v (task_part s v)
@@ -134,18 +135,18 @@ module _ (s : State) (made : ℕ) (t : TaskId) (route : Route) (u : TaskId) (l :
       apart o some = other_way u o (sym (ap (λ (p : Option TaskId). owned_by p u) some) ∙ there.unowned)
 
   -- how the walk goes on is told by the owner as it is left
-  next_left : goes_on (followed u l route) (owner_part s l).owner (task_at (shared (state_after s e)) (owner_part s l).owner) ≡ link_next
+  next_left : goes_on t (followed u l route) (owner_part s l).owner (task_at (shared (state_after s e)) (owner_part s l).owner) ≡ link_next
   next_left = by_owner (owner_part s l).owner refl
     where
-      by_owner : (owner : Option TaskId) → (owner_part s l).owner ≡ owner → goes_on (followed u l route) owner (task_at (shared (state_after s e)) owner) ≡ goes_on (followed u l route) owner (link_owner (task_at (shared s) owner))
+      by_owner : (owner : Option TaskId) → (owner_part s l).owner ≡ owner → goes_on t (followed u l route) owner (task_at (shared (state_after s e)) owner) ≡ goes_on t (followed u l route) owner (link_owner (task_at (shared s) owner))
       by_owner None none = refl
-      by_owner (Some o) some = ap (λ (task : TaskPart). goes_on (followed u l route) (Some o) task) (link-owner o some)
+      by_owner (Some o) some = ap (λ (task : TaskPart). goes_on t (followed u l route) (Some o) task) (link-owner o some)
 
   -- its thread
   pub link-thread : thread_after (shared s) (thread_part s t) link_made ≡ walked_thread (thread_part s t) route link_next
   link-thread =
-      ap (λ (p : Phase). answered_with (record (thread_part s t) { phase = phase_after_link (Some l) (owner_part s l).owner (task_at (shared (state_after s link_made)) (owner_part s l).owner) p }) (answer_of_walk route link_next)) (walk-phase s t route u is.how)
-      ∙ (ap (λ (y : Event). answered_with (record (thread_part s t) { phase = phase_of_walk route (goes_on (followed u l route) (owner_part s l).owner (task_at (shared (state_after s y)) (owner_part s l).owner)) }) (answer_of_walk route link_next)) (sym is.event)
+      ap (λ (p : Phase). answered_with (record (thread_part s t) { phase = phase_after_link t (Some l) (owner_part s l).owner (task_at (shared (state_after s link_made)) (owner_part s l).owner) p }) (answer_of_walk route link_next)) (walk-phase s t route u is.how)
+      ∙ (ap (λ (y : Event). answered_with (record (thread_part s t) { phase = phase_of_walk route (goes_on t (followed u l route) (owner_part s l).owner (task_at (shared (state_after s y)) (owner_part s l).owner)) }) (answer_of_walk route link_next)) (sym is.event)
       ∙ ap (λ (n : Option Phase). answered_with (record (thread_part s t) { phase = phase_of_walk route n }) (answer_of_walk route link_next)) next_left)
 
 -- ---- a walk's end
@@ -162,6 +163,64 @@ module _ (s : State) (t : TaskId) (route : Route) (u : TaskId) (e : Event) (is :
   pub end-lock : (m : LockId) → owner_part (state_after s e) m ≡ owner_part s m
   end-lock m = ap (λ (y : Event). owner_part (state_after s y) m) is.event ∙ locks-kept s (walkend_event t route u) m (λ lock. refl)
 
+-- ---- a restart
+
+module _ (s : State) (t : TaskId) (l : LockId) (path : List (ℕ × ℕ)) (link : Link) (e : Event) (is : IsRestart s t l path link e) where
+  -- its walk stands at its own task again
+  pub restart-thread : thread_after (shared s) (thread_part s t) (restart_event t path link) ≡ record (thread_part s t) { phase = Walk t (Full []) }
+  restart-thread = refl
+
+  -- all else is as it was
+  pub restart-task : (v : TaskId) → task_part (state_after s e) v ≡ task_part s v
+  restart-task v = ap (λ (y : Event). task_part (state_after s y) v) is.event ∙ task-keeps (λ task. task ≡ task_part s v) s (restart_event t path link) v refl (λ found lock task same. same)
+      (λ found lock. record { owner = λ task same. same; other = λ task same. same; woken = λ task same. same })
+
+  pub restart-lock : (m : LockId) → owner_part (state_after s e) m ≡ owner_part s m
+  restart-lock m = ap (λ (y : Event). owner_part (state_after s y) m) is.event ∙ locks-kept s (restart_event t path link) m (λ lock. refl)
+
+-- ---- a signal, and a setprio: one other task, or the own, is changed
+
+-- an event that changes task u by f, and no other
+record ChangesOther (s : State) (x : Event) (u : TaskId) (f : TaskPart → TaskPart) : Type 0 where
+  named : (touched x.kind x).other ≡ Some u
+  own : (task : TaskPart) → (effect_in (shared s) (thread_part s x.task) x).own (lock_left (shared s) (thread_part s x.task) x) task ≡ task
+  owner : (task : TaskPart) → (effect_in (shared s) (thread_part s x.task) x).owner (lock_left (shared s) (thread_part s x.task) x) task ≡ task
+  other : (task : TaskPart) → (effect_in (shared s) (thread_part s x.task) x).other (lock_left (shared s) (thread_part s x.task) x) task ≡ f task
+  woken : (task : TaskPart) → (effect_in (shared s) (thread_part s x.task) x).woken (lock_left (shared s) (thread_part s x.task) x) task ≡ task
+
+other-task : (s : State) (u : TaskId) (f : TaskPart → TaskPart) (e x : Event) (v : TaskId) → e ≡ x → SlotsThere (touched x.kind x) (length s.tasks) → ChangesOther s x u f
+    → task_part (state_after s e) v ≡ cond (nat_eq u.0 v.0) (f (task_part s v)) (task_part s v)
+other-task s u f e x v is there alone =
+    other-made (λ task. task ≡ left) (λ task. task ≡ task_part s v) s e x v is there refl (λ task same. alone.own task ∙ same) (λ task same. alone.owner task ∙ same)
+    (λ task same its. alone.other task ∙ (ap f same ∙ sym (cond-true (nat_eq u.0 v.0) (f (task_part s v)) (task_part s v) (sym (named v) ∙ its))))
+    (λ task same its. same ∙ sym (cond-false (nat_eq u.0 v.0) (f (task_part s v)) (task_part s v) (sym (named v) ∙ its))) (λ task same. alone.woken task ∙ same)
+  where
+    left : TaskPart
+    left = cond (nat_eq u.0 v.0) (f (task_part s v)) (task_part s v)
+
+    named : (w : TaskId) → owned_by (touched x.kind x).other w ≡ nat_eq u.0 w.0
+    named w = ap (λ (o : Option TaskId). owned_by o w) alone.named
+
+module _ (s : State) (made : ℕ) (t u : TaskId) (e : Event) (lawful : IsLawful s made) (is : IsSignal s t u e) where
+  abbrev pub signal_made : Event
+  signal_made = signal_event t u (task_part s u)
+
+  -- its target is signalled, and every other task is as it was
+  pub signal-task : (v : TaskId) → task_part (state_after s e) v ≡ cond (nat_eq u.0 v.0) (signalled (task_part s v)) (task_part s v)
+  signal-task v =
+      other-task s u signalled e signal_made v is.event (slots_there s signal_made lawful.shape tt is.at.served tt)
+      (record { named = refl; own = λ task. refl; owner = λ task. refl; other = λ task. refl; woken = λ task. refl })
+
+  pub signal-target : task_part (state_after s e) u ≡ signalled (task_part s u)
+  signal-target = signal-task u ∙ cond-true (nat_eq u.0 u.0) (signalled (task_part s u)) (task_part s u) (number_itself u.0)
+
+  pub signal-lock : (m : LockId) → owner_part (state_after s e) m ≡ owner_part s m
+  signal-lock m = ap (λ (y : Event). owner_part (state_after s y) m) is.event ∙ locks-kept s signal_made m (λ lock. refl)
+
+  -- its call is answered
+  pub signal-thread : thread_after (shared s) (thread_part s t) signal_made ≡ answered_with (thread_part s t) (Some (signal_answer (task_part s u)))
+  signal-thread = refl
+
 -- ---- a setprio
 
 module _ (s : State) (made : ℕ) (t u : TaskId) (prio : ℕ) (e : Event) (lawful : IsLawful s made) (is : IsSetPrio s t u prio e) where
@@ -170,23 +229,13 @@ module _ (s : State) (made : ℕ) (t u : TaskId) (prio : ℕ) (e : Event) (lawfu
 
   -- the walk that begins, or none
   abbrev pub setprio_next : Option Phase
-  setprio_next = goes_on (Short Done) (Some u) (with_own prio (task_part s u))
+  setprio_next = goes_on t (Short Done) (Some u) (with_own prio (task_part s u))
 
   -- its target has that own priority, and every other task is as it was
   pub setprio-task : (v : TaskId) → task_part (state_after s e) v ≡ cond (nat_eq u.0 v.0) (with_own prio (task_part s v)) (task_part s v)
   setprio-task v =
-      slots-made (λ task. task ≡ task_part s v) (λ task. task ≡ task_part s v) (λ task. task ≡ left) (λ task. task ≡ left) s e setprio_made v is.event
-      (slots_there s setprio_made lawful.shape tt is.at.served.0 tt) refl (λ task same. same) (record {
-        owner = λ task same its. same;
-        not_owner = λ task same its. same;
-        other = λ task same its. ap (with_own prio) same ∙ sym (cond-true (nat_eq u.0 v.0) (with_own prio (task_part s v)) (task_part s v) its);
-        not_other = λ task same its. same ∙ sym (cond-false (nat_eq u.0 v.0) (with_own prio (task_part s v)) (task_part s v) its);
-        woken = λ task same its. same;
-        not_woken = λ task same its. same;
-      })
-    where
-      left : TaskPart
-      left = cond (nat_eq u.0 v.0) (with_own prio (task_part s v)) (task_part s v)
+      other-task s u (with_own prio) e setprio_made v is.event (slots_there s setprio_made lawful.shape tt is.at.served.0 tt)
+      (record { named = refl; own = λ task. refl; owner = λ task. refl; other = λ task. refl; woken = λ task. refl })
 
   pub setprio-target : task_part (state_after s e) u ≡ with_own prio (task_part s u)
   setprio-target = setprio-task u ∙ cond-true (nat_eq u.0 u.0) (with_own prio (task_part s u)) (task_part s u) (number_itself u.0)
@@ -196,7 +245,7 @@ module _ (s : State) (made : ℕ) (t u : TaskId) (prio : ℕ) (e : Event) (lawfu
 
   pub setprio-thread : thread_after (shared s) (thread_part s t) setprio_made ≡ walked_thread (thread_part s t) (Short Done) setprio_next
   setprio-thread =
-      ap (λ (task : TaskPart). answered_with (record (thread_part s t) { phase = phase_of_walk (Short Done) (goes_on (Short Done) (Some u) task) }) (answer_of_walk (Short Done) setprio_next))
+      ap (λ (task : TaskPart). answered_with (record (thread_part s t) { phase = phase_of_walk (Short Done) (goes_on t (Short Done) (Some u) task) }) (answer_of_walk (Short Done) setprio_next))
       (sym (ap (λ (y : Event). task_part (state_after s y) u) is.event) ∙ setprio-target)
 
 -- ---- what a link leaves of a task, part by part

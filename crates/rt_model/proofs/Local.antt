@@ -1,13 +1,11 @@
 -- The choice of an event reads only what the event touches, in any state; and that there is none is told by a thread and its task.
-use Rattle.std.proofs.Common.{◌≡◌, ℕ, Bool, true, false, cond, ◌||◌, refl, sym, ap, ◌∙◌, subst, Option, Some, None, is_some, IfSome}
+use Rattle.std.proofs.Common.{◌≡◌, ℕ, Bool, true, false, cond, ◌||◌, List, refl, sym, ap, ◌∙◌, subst, Option, Some, None, is_some, IfSome}
 use Rattle.rt_base.specs.declared.call.Call.{Call}
 use Rattle.rt_base.specs.declared.call.Call.TheVariants as calls
 use Rattle.rt_base.specs.declared.id.LockId.{LockId}
 use Rattle.rt_base.specs.declared.id.TaskId.{TaskId}
 use Rattle.rt_base.specs.declared.kind.Kind.{Kind}
 use Rattle.rt_base.specs.declared.reply.Reply.{Reply}
-use Rattle.rt_base.specs.declared.state.TaskState.{TaskState}
-use Rattle.rt_base.specs.declared.state.TaskState.TheVariants as states
 use Rattle.rt_model.specs.declared.event.Event.{Event}
 use Rattle.rt_model.specs.declared.phase.Phase.{Phase}
 use Rattle.rt_model.specs.declared.phase.Phase.TheVariants as phases
@@ -18,21 +16,22 @@ use Rattle.rt_model.specs.State.{State, Shared, shared, lock_in, task_in, task_a
 use Rattle.rt_model.specs.Choice.{called_lock}
 use Rattle.rt_model.specs.events.Acquire.{fast_event, is_free, acquire_event, take_event, busy_event, try_event}
 use Rattle.rt_model.specs.events.Release.{give_event, release_event}
-use Rattle.rt_model.specs.events.Wait.{wait_event, slow_event, queued_event}
-use Rattle.rt_model.specs.events.Walk.{cursor_event}
-use Rattle.rt_model.specs.events.Wakeups.{setprio_event}
+use Rattle.rt_model.specs.events.Wait.{wait_event, slow_event, leave_event, again_event, is_interrupted, is_awake, awake_event}
+use Rattle.rt_model.specs.Path.{Link, first_broken}
+use Rattle.rt_model.specs.events.Walk.{cursor_event, confirmed_event}
+use Rattle.rt_model.specs.events.Wakeups.{signal_event, setprio_event}
 use Rattle.rt_model.specs.events.Own.{own_answer}
-use Rattle.rt_model.specs.CanMove.{has_first, runs, can_go_on, can_in, can_at, can_move}
+use Rattle.rt_model.specs.CanMove.{has_first, can_go_on, can_in, can_at, can_move}
 use Rattle.rt_model.specs.NextEvent.{answered_or, first_event, later_event, event_in, event_of, next_of, next_event}
 use Rattle.rt_model.specs.laws.Local.{AgreeOn}
 use Rattle.rt_model.proofs.EffectLocal.{agree-thread, agree-shared}
 use Rattle.rt_model.proofs.Touching.{touches-thread}
-use Rattle.rt_model.proofs.Alike.{GivesAlike, gives_alike}
+use Rattle.rt_model.proofs.Alike.{GivesAlike, gives_alike, same-other}
 use Rattle.rt_model.proofs.events.Acquire.{same-acquire, same-try}
 use Rattle.rt_model.proofs.events.Release.{same-release}
-use Rattle.rt_model.proofs.events.Wait.{same-slow, same-queued}
+use Rattle.rt_model.proofs.events.Taking.{same-slow, same-queued}
 use Rattle.rt_model.proofs.events.Walk.{same-cursor}
-use Rattle.rt_model.proofs.events.Wakeups.{same-setprio}
+use Rattle.rt_model.proofs.events.Confirm.{same-confirmed}
 
 -- ---- a task's next event is its own
 
@@ -45,10 +44,12 @@ either-own t false x y first second = second
 
 first-own : (sh : Shared) (t : TaskId) (thread : ThreadPart) (call : Call) → IsOwn t (first_event sh t thread call)
 first-own sh t thread (calls.Lock l) = either-own t (is_free (lock_in sh l)) _ _ refl refl
+first-own sh t thread (calls.LockInt l) = either-own t (is_free (lock_in sh l)) _ _ refl refl
 first-own sh t thread (calls.TryLock l) =
     either-own t (is_free (lock_in sh l)) (fast_event t l) _ refl
     (either-own t (can_take t (kind_of thread l) (lock_in sh l) (task_in sh t)) (take_event t l (kind_of thread l) (lock_in sh l) (task_in sh t)) (busy_event t l (lock_in sh l)) refl refl)
 first-own sh t thread (calls.Unlock l) = either-own t (lock_in sh l).bit (give_event t l (lock_in sh l) (task_in sh t)) _ refl refl
+first-own sh t thread (calls.Signal u) = refl
 first-own sh t thread (calls.SetPrio u prio) = refl
 first-own sh t thread _ = tt
 
@@ -60,15 +61,27 @@ answered-own : (sh : Shared) (t : TaskId) (thread : ThreadPart) (call : Call) (l
 answered-own sh t thread call lock None = first-own sh t thread call
 answered-own sh t thread call lock (Some answer) = refl
 
-queued-own : (t : TaskId) (l : LockId) (kind : Kind) (lock : OwnerPart) (task : TaskPart) (state : TaskState) → IsOwn t (queued_event t l kind lock task state)
-queued-own t l kind lock task states.Running = either-own t (can_take t kind lock task) (take_event t l kind lock task) _ refl refl
-queued-own t l kind lock task _ = tt
+confirmed-own : (sh : Shared) (t : TaskId) (path : List (ℕ × ℕ)) (broken : Option Link) → (confirmed_event sh t path broken).task ≡ t
+confirmed-own sh t path None = refl
+confirmed-own sh t path (Some link) = refl
+
+awake-own : (call : Option Call) (t : TaskId) (l : LockId) (kind : Kind) (lock : OwnerPart) (task owner : TaskPart) → (awake_event call t l kind lock task owner).task ≡ t
+awake-own call t l kind lock task owner =
+    either-own t (can_take t kind lock task) (take_event t l kind lock task) _ refl (either-own t (is_interrupted call task) (leave_event t l lock owner) (again_event t l) refl refl)
+
+-- a choice that a test makes has an event where it passes
+where-own : (t : TaskId) (b : Bool) (e : Event) → e.task ≡ t → IsOwn t (cond b (Some e) None)
+where-own t true e own = own
+where-own t false e own = tt
 
 later-own : (phase : Phase) (sh : Shared) (t : TaskId) (thread : ThreadPart) (lock : Option LockId) → IsOwn t (later_event phase sh t thread lock)
 later-own phases.Slow sh t thread (Some l) =
     either-own t (can_take t (kind_of thread l) (lock_in sh l) (task_in sh t)) (take_event t l (kind_of thread l) (lock_in sh l) (task_in sh t)) (wait_event t l (lock_in sh l) (task_in sh t) (task_at sh (lock_in sh l).owner)) refl refl
-later-own phases.Wait sh t thread (Some l) = queued-own t l (kind_of thread l) (lock_in sh l) (task_in sh t) (task_in sh t).state
+later-own phases.Wait sh t thread (Some l) =
+    where-own t (is_awake (call_of thread) (task_in sh t)) (awake_event (call_of thread) t l (kind_of thread l) (lock_in sh l) (task_in sh t) (task_at sh (lock_in sh l).owner))
+    (awake-own (call_of thread) t l (kind_of thread l) (lock_in sh l) (task_in sh t) (task_at sh (lock_in sh l).owner))
 later-own (phases.Walk u route) sh t thread lock = cursor-own sh t route u (task_in sh u) (task_in sh u).blocked
+later-own (phases.Confirm path) sh t thread lock = confirmed-own sh t path (first_broken sh path)
 later-own _ sh t thread lock = tt
 
 in_phase-own : (phase : Phase) (sh : Shared) (t : TaskId) (thread : ThreadPart) (call : Call) → IsOwn t (event_in phase sh t thread call)
@@ -86,8 +99,10 @@ task-next_event s t e is = subst (IsOwn t) is (at_call-own (shared s) t (thread_
 
 local-first : (t : TaskId) (thread : ThreadPart) (call : Call) (a b : Shared) → GivesAlike (λ sh. first_event sh t thread call) a b
 local-first t thread (calls.TryLock l) a b = gives_alike (λ sh. try_event t l (kind_of thread l) (lock_in sh l) (task_in sh t)) a b (same-try a b t l (kind_of thread l))
-local-first t thread (calls.SetPrio u prio) a b = gives_alike (λ sh. setprio_event t u prio (task_in sh u)) a b (same-setprio a b t u prio)
+local-first t thread (calls.Signal u) a b = gives_alike (λ sh. signal_event t u (task_in sh u)) a b (same-other a b u (signal_event t u) refl)
+local-first t thread (calls.SetPrio u prio) a b = gives_alike (λ sh. setprio_event t u prio (task_in sh u)) a b (same-other a b u (setprio_event t u prio) refl)
 local-first t thread (calls.Lock l) a b = gives_alike (λ sh. acquire_event t l (lock_in sh l)) a b (same-acquire a b t l)
+local-first t thread (calls.LockInt l) a b = gives_alike (λ sh. acquire_event t l (lock_in sh l)) a b (same-acquire a b t l)
 local-first t thread (calls.Unlock l) a b = gives_alike (λ sh. release_event t l (lock_in sh l) (task_in sh t)) a b (same-release a b t l)
 local-first t thread _ a b = λ e is alike. is
 
@@ -97,8 +112,9 @@ local-answered t thread call lock (Some answer) a b = λ e is alike. is
 
 local-later : (phase : Phase) (t : TaskId) (thread : ThreadPart) (lock : Option LockId) (a b : Shared) → GivesAlike (λ sh. later_event phase sh t thread lock) a b
 local-later phases.Slow t thread (Some l) a b = gives_alike (λ sh. slow_event t l (kind_of thread l) (lock_in sh l) (task_in sh t) (task_at sh (lock_in sh l).owner)) a b (same-slow a b t l (kind_of thread l))
-local-later phases.Wait t thread (Some l) a b = same-queued t l (kind_of thread l) a b
+local-later phases.Wait t thread (Some l) a b = same-queued (call_of thread) t l (kind_of thread l) a b
 local-later (phases.Walk u route) t thread lock a b = gives_alike (λ sh. cursor_event sh t route u (task_in sh u) (task_in sh u).blocked) a b (same-cursor a b t route u)
+local-later (phases.Confirm path) t thread lock a b = gives_alike (λ sh. confirmed_event sh t path (first_broken sh path)) a b (same-confirmed a b t path)
 local-later _ t thread lock a b = λ e is alike. is
 
 local-in : (phase : Phase) (t : TaskId) (thread : ThreadPart) (call : Call) (a b : Shared) → GivesAlike (λ sh. event_in phase sh t thread call) a b
@@ -121,8 +137,10 @@ local s other t e is agree =
 
 has-first : (sh : Shared) (t : TaskId) (thread : ThreadPart) (call : Call) → is_some (first_event sh t thread call) ≡ has_first call
 has-first sh t thread (calls.Lock l) = refl
+has-first sh t thread (calls.LockInt l) = refl
 has-first sh t thread (calls.TryLock l) = refl
 has-first sh t thread (calls.Unlock l) = refl
+has-first sh t thread (calls.Signal u) = refl
 has-first sh t thread (calls.SetPrio u prio) = refl
 has-first sh t thread _ = refl
 
@@ -130,21 +148,22 @@ has-answered : (sh : Shared) (t : TaskId) (thread : ThreadPart) (call : Call) (l
 has-answered sh t thread call lock None = has-first sh t thread call
 has-answered sh t thread call lock (Some answer) = refl
 
-has-queued : (t : TaskId) (l : LockId) (kind : Kind) (lock : OwnerPart) (task : TaskPart) (state : TaskState) → is_some (queued_event t l kind lock task state) ≡ runs state
-has-queued t l kind lock task states.Running = refl
-has-queued t l kind lock task _ = refl
+has-where : (b : Bool) (e : Event) → is_some (cond b (Some e) None) ≡ b
+has-where true e = refl
+has-where false e = refl
 
-has-later : (phase : Phase) (sh : Shared) (t : TaskId) (thread : ThreadPart) (lock : Option LockId) → is_some (later_event phase sh t thread lock) ≡ can_go_on phase (task_in sh t).state lock
+has-later : (phase : Phase) (sh : Shared) (t : TaskId) (thread : ThreadPart) (lock : Option LockId) → is_some (later_event phase sh t thread lock) ≡ can_go_on phase thread (task_in sh t) lock
 has-later phases.Slow sh t thread (Some l) = refl
-has-later phases.Wait sh t thread (Some l) = has-queued t l (kind_of thread l) (lock_in sh l) (task_in sh t) (task_in sh t).state
+has-later phases.Wait sh t thread (Some l) = has-where (is_awake (call_of thread) (task_in sh t)) _
 has-later (phases.Walk u route) sh t thread lock = refl
+has-later (phases.Confirm path) sh t thread lock = refl
 has-later _ sh t thread lock = refl
 
-has-in : (phase : Phase) (sh : Shared) (t : TaskId) (thread : ThreadPart) (call : Call) → is_some (event_in phase sh t thread call) ≡ can_in phase (task_in sh t).state thread call
+has-in : (phase : Phase) (sh : Shared) (t : TaskId) (thread : ThreadPart) (call : Call) → is_some (event_in phase sh t thread call) ≡ can_in phase thread (task_in sh t) call
 has-in phases.Start sh t thread call = has-answered sh t thread call (called_lock thread.cpu call) (own_answer thread call)
 has-in phase sh t thread call = has-later phase sh t thread (called_lock thread.cpu call)
 
-has-of : (sh : Shared) (t : TaskId) (thread : ThreadPart) (call : Option Call) → is_some (event_of sh t thread call) ≡ can_at thread (task_in sh t).state call
+has-of : (sh : Shared) (t : TaskId) (thread : ThreadPart) (call : Option Call) → is_some (event_of sh t thread call) ≡ can_at thread (task_in sh t) call
 has-of sh t thread None = refl
 has-of sh t thread (Some call) = has-in thread.phase sh t thread call
 

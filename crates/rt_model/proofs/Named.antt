@@ -1,5 +1,5 @@
 -- What a next event names is there.
-use Rattle.std.proofs.Common.{ℕ, ◌<◌, Bool, true, false, cond, not, ◌&&◌, List, length, sym, subst, Option, Some, None, IfSome, All, is_none}
+use Rattle.std.proofs.Common.{ℕ, ◌<◌, Bool, true, false, cond, not, ◌&&◌, List, length, sym, ap, ◌∙◌, subst, Option, Some, None, IfSome, All, is_none}
 use Rattle.std.specs.Prelude.{nat_eq, option_map}
 use Rattle.std.proofs.lemmas.Bool.{cond_both}
 use Rattle.std.proofs.lemmas.List.Elements.{All-filter}
@@ -10,32 +10,39 @@ use Rattle.rt_base.specs.declared.id.LockId.{LockId}
 use Rattle.rt_base.specs.declared.id.TaskId.{TaskId}
 use Rattle.rt_base.specs.declared.reply.Reply.{Reply}
 use Rattle.rt_model.specs.declared.event.Event.{Event}
+use Rattle.rt_model.specs.declared.phase.Phase.TheVariants as phases
 use Rattle.rt_model.specs.declared.phase.Route.{Route}
 use Rattle.rt_model.specs.declared.row.Row.{Row}
 use Rattle.rt_model.specs.Parts.{OwnerPart, TaskPart, effective_of}
 use Rattle.rt_model.specs.Rows.{top_waiter, top_changed, top_task, task_of, is_of, without}
-use Rattle.rt_model.specs.State.{State, owner_part, task_part, thread_part}
+use Rattle.rt_model.specs.State.{State, shared, lock_at, task_at, owner_part, task_part, thread_part}
 use Rattle.rt_model.specs.Choice.{called_lock, boost_of, boost_at}
 use Rattle.rt_model.specs.Stage.{IsServed}
+use Rattle.rt_model.specs.Path.{Link, first_lock, first_owner}
+use Rattle.rt_model.specs.events.Walk.{cycle_event}
 use Rattle.rt_model.specs.steps.Lock.{requeued}
 use Rattle.rt_model.specs.steps.Chain.{has_old_key, requeued_where_old, newly_top}
 use Rattle.rt_model.specs.laws.Lawful.{IsLawful}
 use Rattle.rt_model.specs.laws.Shape.{IsWithin}
-use Rattle.rt_model.proofs.NextEvents.{IsNext, by_own, by_acquire, by_wait, by_release, by_walk, by_setprio}
+use Rattle.rt_model.proofs.Calling.{asks-lock}
+use Rattle.rt_model.proofs.NextEvents.{IsNext, by_own, by_acquire, by_wait, by_release, by_walk, by_confirm, by_signal, by_setprio}
 use Rattle.rt_model.proofs.events.Own.{IsOwn}
 use Rattle.rt_model.proofs.events.Acquire.{IsAcquire, is_fast, is_mark, is_take, is_busy}
-use Rattle.rt_model.proofs.events.Wait.{IsWaiting, is_wait, is_again}
+use Rattle.rt_model.proofs.events.Wait.{IsWaiting, is_wait, is_again, is_leave}
 use Rattle.rt_model.proofs.events.Release.{IsRelease, is_free, is_give}
-use Rattle.rt_model.proofs.events.Walk.{IsWalking, is_walk, is_walkend}
-use Rattle.rt_model.proofs.events.Wakeups.{IsSetPrio}
+use Rattle.rt_model.proofs.events.Walk.{IsWalking, is_walk, is_walkend, IsRestart, IsCycleEvent, is_restart, is_cycle}
+use Rattle.rt_model.proofs.events.Wakeups.{IsSignal, IsSetPrio}
 use Rattle.rt_model.proofs.Queues.{top-holds, All-insert_row}
-use Rattle.rt_model.proofs.Waiters.{cursor-there, walk-link}
+use Rattle.rt_model.proofs.Waiters.{cursor-there, confirm-walk, round-begins, walk-link}
+use Rattle.rt_model.proofs.PathLinks.{All-links_of, broken-holds}
 use Rattle.rt_model.proofs.Within.{owner_within, rows_within}
 
 called_within : (m n : ℕ) (cpu : Cpu) (call : Call) → IsServed m n call → IfSome (called_lock cpu call) (λ l. l.0 < n)
 called_within m n cpu (calls.Lock l) served = served
+called_within m n cpu (calls.LockInt l) served = served
 called_within m n cpu (calls.TryLock l) served = served
 called_within m n cpu (calls.Unlock l) served = served
+called_within m n cpu (calls.Signal u) served = tt
 called_within m n cpu (calls.SetPrio u prio) served = tt
 called_within m n cpu _ served = absurd served
 
@@ -81,15 +88,19 @@ module _ (s : State) (made : ℕ) (t : TaskId) (e : Event) (lawful : IsLawful s 
 
   of_acquire : (l : LockId) → IsAcquire s t l e → Within e
   of_acquire l (is_fast is) = subst Within (sym is.event) (record { task = is.task; lock = is.lock; other = tt; owner = tt; woken = tt; boost = tt })
-  of_acquire l (is_mark is) = subst Within (sym is.event) (record { task = is.at.task; lock = is.at.served; other = tt; owner = tt; woken = tt; boost = tt })
+  of_acquire l (is_mark is) = subst Within (sym is.event) (record { task = is.at.at.task; lock = asks-lock s t phases.Start l is.at; other = tt; owner = tt; woken = tt; boost = tt })
   of_acquire l (is_take is) = subst Within (sym is.event) (record { task = is.task; lock = is.lock; other = tt; owner = tt; woken = tt; boost = boost_within (length s.threads) t _ _ is.task })
   of_acquire l (is_busy is) = subst Within (sym is.event) (record { task = is.at.task; lock = is.at.served; other = tt; owner = owner_within s l lawful.shape is.at.served; woken = tt; boost = tt })
 
   of_wait : (l : LockId) → IsWaiting s t l e → Within e
   of_wait l (is_wait is) =
+      let lock = asks-lock s t phases.Slow l is.at in
+      let owner = owner_within s l lawful.shape lock in
+      subst Within (sym is.event) (record { task = is.at.at.task; lock = lock; other = tt; owner = owner; woken = tt; boost = boost_at_within (length s.threads) (owner_part s l).owner _ _ owner })
+  of_wait l (is_again is) = subst Within (sym is.event) (record { task = is.at.at.task; lock = asks-lock s t phases.Wait l is.at; other = tt; owner = tt; woken = tt; boost = tt })
+  of_wait l (is_leave is) =
       let owner = owner_within s l lawful.shape is.at.served in
       subst Within (sym is.event) (record { task = is.at.task; lock = is.at.served; other = tt; owner = owner; woken = tt; boost = boost_at_within (length s.threads) (owner_part s l).owner _ _ owner })
-  of_wait l (is_again is) = subst Within (sym is.event) (record { task = is.at.task; lock = is.at.served; other = tt; owner = tt; woken = tt; boost = tt })
 
   of_release : (l : LockId) → IsRelease s t l e → Within e
   of_release l (is_free is) = subst Within (sym is.event) (record { task = is.at.task; lock = is.at.served; other = tt; owner = tt; woken = tt; boost = tt })
@@ -97,7 +108,7 @@ module _ (s : State) (made : ℕ) (t : TaskId) (e : Event) (lawful : IsLawful s 
       let woken = top_within (length s.threads) (owner_part s l).rows (rows_within s l lawful.shape is.at.served) in
       subst Within (sym is.event) (record { task = is.at.task; lock = is.at.served; other = tt; owner = tt; woken = woken; boost = boost_within (length s.threads) t _ _ is.at.task })
 
-  of_walk : (route : Route) (u : TaskId) → IsWalking s t route u e → Within e
+  pub of_walk : (route : Route) (u : TaskId) → IsWalking s t route u e → Within e
   of_walk route u (is_walk l key is) =
       let link = walk-link s made t route u l key e lawful is in
       let owner = owner_within s l lawful.shape link.lock in
@@ -112,6 +123,30 @@ module _ (s : State) (made : ℕ) (t : TaskId) (e : Event) (lawful : IsLawful s 
       })
   of_walk route u (is_walkend is) = subst Within (sym is.event) (record { task = is.task; lock = tt; other = cursor-there s made t route u lawful is.how; owner = tt; woken = tt; boost = tt })
 
+  -- a path that is to be confirmed begins with the task and its lock, and another task comes next
+  of_cycle : (l : LockId) (path : List (ℕ × ℕ)) → IsCycleEvent s t l path e → Within e
+  of_cycle l path is =
+      let round = round-begins s made t path l lawful is.at in
+      let made_by : List (ℕ × ℕ) → Event = λ xs. cycle_event t xs (lock_at (shared s) (first_lock xs)) (task_at (shared s) (first_owner xs)) in
+      subst Within (sym (is.event ∙ ap made_by round.is)) (record {
+        task = is.at.at.task;
+        lock = asks-lock s t (phases.Confirm path) l is.at;
+        other = tt;
+        owner = tt;
+        woken = tt;
+        boost = boost_within (length s.threads) round.owner _ _ round.there;
+      })
+
+  -- the lock of a broken link is one of the path
+  of_restart : (l : LockId) (path : List (ℕ × ℕ)) (link : Link) → IsRestart s t l path link e → Within e
+  of_restart l path link is =
+      let there = All-links_of (λ n m. (n < length s.threads) × (m < length s.locks)) path (confirm-walk s made t path l lawful is.at).there in
+      let link_there = broken-holds (λ (link : Link). (link.from.0 < length s.threads) × (link.lock.0 < length s.locks)) s path link there is.broken in
+      subst Within (sym is.event) (record { task = is.at.at.task; lock = link_there.1; other = link_there.0; owner = tt; woken = tt; boost = tt })
+
+  of_signal : (u : TaskId) → IsSignal s t u e → Within e
+  of_signal u is = subst Within (sym is.event) (record { task = is.at.task; lock = tt; other = is.at.served; owner = tt; woken = tt; boost = tt })
+
   of_setprio : (u : TaskId) (prio : ℕ) → IsSetPrio s t u prio e → Within e
   of_setprio u prio is = subst Within (sym is.event) (record { task = is.at.task; lock = tt; other = is.at.served.0; owner = tt; woken = tt; boost = boost_within (length s.threads) u _ _ is.at.served.0 })
 
@@ -122,4 +157,7 @@ within s made t e lawful (by_acquire l is) = of_acquire s made t e lawful l is
 within s made t e lawful (by_wait l is) = of_wait s made t e lawful l is
 within s made t e lawful (by_release l is) = of_release s made t e lawful l is
 within s made t e lawful (by_walk route u is) = of_walk s made t e lawful route u is
+within s made t e lawful (by_confirm l path (is_restart link is)) = of_restart s made t e lawful l path link is
+within s made t e lawful (by_confirm l path (is_cycle is)) = of_cycle s made t e lawful l path is
+within s made t e lawful (by_signal u is) = of_signal s made t e lawful u is
 within s made t e lawful (by_setprio u prio is) = of_setprio s made t e lawful u prio is

@@ -1,5 +1,5 @@
 -- How the next event of a task comes about.
-use Rattle.std.proofs.Common.{◌≡◌, ◌⊎◌, inl, inr, ℕ, refl, sym, ap, subst, Option, Some, None, length}
+use Rattle.std.proofs.Common.{◌≡◌, ◌⊎◌, inl, inr, ℕ, true, List, refl, sym, ap, subst, Option, Some, None, length}
 use Rattle.rt_base.specs.declared.call.Call.{Call}
 use Rattle.rt_base.specs.declared.call.Call.TheVariants as calls
 use Rattle.rt_base.specs.declared.id.LockId.{LockId}
@@ -12,22 +12,23 @@ use Rattle.rt_model.specs.declared.phase.Route.{Route}
 use Rattle.rt_model.specs.Parts.{call_of, kind_of}
 use Rattle.rt_model.specs.Choice.{called_lock}
 use Rattle.rt_model.specs.State.{State, shared, task_at, owner_part, task_part, thread_part}
-use Rattle.rt_model.specs.Stage.{IsServed, IsStaged, IsPhaseOf}
+use Rattle.rt_model.specs.Stage.{IsServed, IsStaged, waits, IsPhaseOf}
+use Rattle.rt_model.specs.Path.{first_broken}
 use Rattle.rt_model.specs.events.Acquire.{acquire_event, try_event}
 use Rattle.rt_model.specs.events.Release.{release_event}
 use Rattle.rt_model.specs.events.Wait.{slow_event}
-use Rattle.rt_model.specs.events.Walk.{cursor_event}
-use Rattle.rt_model.specs.events.Wakeups.{setprio_event}
+use Rattle.rt_model.specs.events.Walk.{cursor_event, confirmed_event}
+use Rattle.rt_model.specs.events.Wakeups.{signal_event, setprio_event}
 use Rattle.rt_model.specs.events.Own.{own_answer}
 use Rattle.rt_model.specs.NextEvent.{first_event, answered_or, later_event, event_in, event_of, next_event}
 use Rattle.rt_model.specs.laws.Phases.{PhasesLaw}
-use Rattle.rt_model.proofs.Calling.{IsIn, at_call, served_call}
+use Rattle.rt_model.proofs.Calling.{IsIn, at_call, served_call, by_lock, by_lockint, asked}
 use Rattle.rt_model.proofs.events.Own.{IsOwn, not_held, was_held}
 use Rattle.rt_model.proofs.events.Acquire.{IsAcquire, IsTake, is_fast, is_mark, is_take, is_busy, acquired, tried}
 use Rattle.rt_model.proofs.events.Release.{IsRelease, is_free, is_give, released}
-use Rattle.rt_model.proofs.events.Wait.{IsWaiting, is_wait, is_again, slowed, woken_up}
-use Rattle.rt_model.proofs.events.Walk.{IsWalking, is_walk, is_walkend, walked}
-use Rattle.rt_model.proofs.events.Wakeups.{IsSetPrio}
+use Rattle.rt_model.proofs.events.Wait.{IsWaiting, is_wait, is_again, is_leave, slowed, woken_up}
+use Rattle.rt_model.proofs.events.Walk.{IsWalking, is_walk, is_walkend, walked, IsConfirmed, is_restart, is_cycle, confirmed}
+use Rattle.rt_model.proofs.events.Wakeups.{IsSignal, IsSetPrio}
 
 -- one constructor a family
 pub data IsNext (s : State) (t : TaskId) (e : Event) : Type 0 where
@@ -36,10 +37,16 @@ pub data IsNext (s : State) (t : TaskId) (e : Event) : Type 0 where
   by_wait : (l : LockId) → IsWaiting s t l e → IsNext s t e
   by_release : (l : LockId) → IsRelease s t l e → IsNext s t e
   by_walk : (route : Route) (u : TaskId) → IsWalking s t route u e → IsNext s t e
+  by_confirm : (l : LockId) (path : List (ℕ × ℕ)) → IsConfirmed s t l path e → IsNext s t e
+  by_signal : (u : TaskId) → IsSignal s t u e → IsNext s t e
   by_setprio : (u : TaskId) (prio : ℕ) → IsSetPrio s t u prio e → IsNext s t e
 
 first_next : (s : State) (t : TaskId) (call : Call) (e : Event) → IsIn s t phases.Start call → IsServed (length s.threads) (length s.locks) call → own_answer (thread_part s t) call ≡ None → first_event (shared s) t (thread_part s t) call ≡ Some e → IsNext s t e
-first_next s t (calls.Lock l) e at served none is = let same : acquire_event t l (owner_part s l) ≡ e = cc in by_acquire l (acquired s t l e at (not_held _ _ none) same)
+first_next s t (calls.Lock l) e at served none is =
+    let same : acquire_event t l (owner_part s l) ≡ e = cc in by_acquire l (acquired s t l e (record { call = calls.Lock l; waits_for = by_lock refl; at = at }) (not_held _ _ none) same)
+first_next s t (calls.LockInt l) e at served none is =
+    let same : acquire_event t l (owner_part s l) ≡ e = cc in by_acquire l (acquired s t l e (record { call = calls.LockInt l; waits_for = by_lockint refl; at = at }) (not_held _ _ none) same)
+first_next s t (calls.Signal u) e at served none is = by_signal u (record { at = at; event = let same : signal_event t u (task_part s u) ≡ e = cc in sym same })
 first_next s t (calls.TryLock l) e at served none is = let same : try_event t l (kind_of (thread_part s t) l) (owner_part s l) (task_part s t) ≡ e = cc in by_acquire l (tried s t l e at same)
 first_next s t (calls.SetPrio u prio) e at served none is = by_setprio u prio (record { at = at; event = let same : setprio_event t u prio (task_part s u) ≡ e = cc in sym same })
 first_next s t (calls.Unlock l) e at served none is = let same : release_event t l (owner_part s l) (task_part s t) ≡ e = cc in by_release l (released s t l e at (was_held _ none) same)
@@ -54,14 +61,22 @@ taken_or_waiting : (s : State) (t : TaskId) (l : LockId) (e : Event) → IsTake 
 taken_or_waiting s t l e (inl takes) = by_acquire l (is_take takes)
 taken_or_waiting s t l e (inr waiting) = by_wait l waiting
 
-in_slow : (s : State) (t : TaskId) (call : Call) (e : Event) → IsIn s t phases.Slow call → IsPhaseOf phases.Slow (Some call) → later_event phases.Slow (shared s) t (thread_part s t) (called_lock (thread_part s t).cpu call) ≡ Some e → IsNext s t e
-in_slow s t (calls.Lock l) e at fits is =
-    let same : slow_event t l (kind_of (thread_part s t) l) (owner_part s l) (task_part s t) (task_at (shared s) (owner_part s l).owner) ≡ e = cc in taken_or_waiting s t l e (slowed s t l e at same)
-in_slow s t _ e at fits is = absurd fits
+-- a call in such a phase waits for some lock
+in_slow : (s : State) (t : TaskId) (call : Call) (e : Event) → IsIn s t phases.Slow call → waits call ≡ true → later_event phases.Slow (shared s) t (thread_part s t) (called_lock (thread_part s t).cpu call) ≡ Some e → IsNext s t e
+in_slow s t call e at fits is =
+    let some = asked s t phases.Slow call at fits in
+    let l : LockId = some.0 in
+    let made = subst (λ (lock : Option LockId). later_event phases.Slow (shared s) t (thread_part s t) lock ≡ Some e) some.2 is in
+    let same : slow_event t l (kind_of (thread_part s t) l) (owner_part s l) (task_part s t) (task_at (shared s) (owner_part s l).owner) ≡ e = cc in taken_or_waiting s t l e (slowed s t l e some.1 same)
 
-in_wait : (s : State) (t : TaskId) (call : Call) (e : Event) → IsIn s t phases.Wait call → IsPhaseOf phases.Wait (Some call) → later_event phases.Wait (shared s) t (thread_part s t) (called_lock (thread_part s t).cpu call) ≡ Some e → IsNext s t e
-in_wait s t (calls.Lock l) e at fits is = taken_or_waiting s t l e (woken_up s t l e (task_part s t).state at refl is)
-in_wait s t _ e at fits is = absurd fits
+in_wait : (s : State) (t : TaskId) (call : Call) (e : Event) → IsIn s t phases.Wait call → waits call ≡ true → later_event phases.Wait (shared s) t (thread_part s t) (called_lock (thread_part s t).cpu call) ≡ Some e → IsNext s t e
+in_wait s t call e at fits is =
+    let some = asked s t phases.Wait call at fits in
+    let made = subst (λ (lock : Option LockId). later_event phases.Wait (shared s) t (thread_part s t) lock ≡ Some e) some.2 is in
+    taken_or_waiting s t some.0 e (woken_up s t some.0 e some.1 made)
+
+in_confirm : (s : State) (t : TaskId) (call : Call) (e : Event) (path : List (ℕ × ℕ)) → IsIn s t (phases.Confirm path) call → waits call ≡ true → confirmed_event (shared s) t path (first_broken (shared s) path) ≡ e → IsNext s t e
+in_confirm s t call e path at fits is = let some = asked s t (phases.Confirm path) call at fits in by_confirm some.0 path (confirmed s t some.0 path e some.1 is)
 
 in_phase : (s : State) (t : TaskId) (call : Call) (e : Event) (phase : Phase) → IsIn s t phase call → IsPhaseOf phase (Some call) → event_in phase (shared s) t (thread_part s t) call ≡ Some e → IsNext s t e
 in_phase s t call e phases.Start at fits is = started s t call e (own_answer (thread_part s t) call) at at.served refl is
@@ -69,6 +84,7 @@ in_phase s t call e phases.Slow at fits is = in_slow s t call e at fits is
 in_phase s t call e phases.Wait at fits is = in_wait s t call e at fits is
 in_phase s t call e (phases.Walk u route) at fits is =
     let same : cursor_event (shared s) t route u (task_part s u) (task_part s u).blocked ≡ e = cc in by_walk route u (walked s t call route u e at fits same)
+in_phase s t call e (phases.Confirm path) at fits is = let same : confirmed_event (shared s) t path (first_broken (shared s) path) ≡ e = cc in in_confirm s t call e path at fits same
 in_phase s t call e _ at fits is = absurd fits
 
 at_call_of : (s : State) (t : TaskId) (e : Event) (call : Option Call) → IsStaged s → PhasesLaw s → call_of (thread_part s t) ≡ call → event_of (shared s) t (thread_part s t) call ≡ Some e → IsNext s t e
@@ -90,8 +106,12 @@ task-IsNext s t e (by_acquire l (is_take is)) = ap (λ (x : Event). x.task) is.e
 task-IsNext s t e (by_acquire l (is_busy is)) = ap (λ (x : Event). x.task) is.event
 task-IsNext s t e (by_wait l (is_wait is)) = ap (λ (x : Event). x.task) is.event
 task-IsNext s t e (by_wait l (is_again is)) = ap (λ (x : Event). x.task) is.event
+task-IsNext s t e (by_wait l (is_leave is)) = ap (λ (x : Event). x.task) is.event
 task-IsNext s t e (by_release l (is_free is)) = ap (λ (x : Event). x.task) is.event
 task-IsNext s t e (by_release l (is_give is)) = ap (λ (x : Event). x.task) is.event
 task-IsNext s t e (by_walk route u (is_walk l key is)) = ap (λ (x : Event). x.task) is.event
 task-IsNext s t e (by_walk route u (is_walkend is)) = ap (λ (x : Event). x.task) is.event
+task-IsNext s t e (by_confirm l path (is_restart link is)) = ap (λ (x : Event). x.task) is.event
+task-IsNext s t e (by_confirm l path (is_cycle is)) = ap (λ (x : Event). x.task) is.event
+task-IsNext s t e (by_signal u is) = ap (λ (x : Event). x.task) is.event
 task-IsNext s t e (by_setprio u prio is) = ap (λ (x : Event). x.task) is.event

@@ -55,3 +55,7 @@ nobodys owner u is = ap (λ (o : Option TaskId). owned_by o u) is
 pub owner-holds : (P : TaskId → Type 0) (owner : Option TaskId) (u : TaskId) → IfSome owner P → owned_by owner u ≡ true → P u
 owner-holds P None u holds is = cc
 owner-holds P (Some o) u holds is = subst P (same_task o u is) holds
+
+pub owner-is : (owner : Option TaskId) (u : TaskId) → owned_by owner u ≡ true → owner ≡ Some u
+owner-is None u is = cc
+owner-is (Some o) u is = ap Some (same_task o u is)

@@ -151,6 +151,8 @@ own-slot : (kind : EventKind) (e : Event) (th : ThreadPart) (found : Around) (lo
 own-slot kinds.Take e th found lock = inl refl
 own-slot kinds.Wait e th found lock = inl refl
 own-slot kinds.Again e th found lock = inl refl
+own-slot kinds.Leave e th found lock = inl refl
+own-slot kinds.Cycle e th found lock = inl refl
 own-slot kinds.Give e th found lock = inl refl
 own-slot _ e th found lock = inr (λ task. refl)
 
@@ -232,10 +234,11 @@ pub record SlotsThere (named : Touched) (tasks : ℕ) : Type 0 where
   pub other : IfSome named.other (λ v. v.0 < tasks)
   pub woken : IfSome named.woken (λ v. v.0 < tasks)
 
-pub slots-made : (first second third P : TaskPart → Type 0) (s : State) (e x : Event) (u : TaskId) → e ≡ x → SlotsThere (touched x.kind x) (length s.tasks) → first (task_part s u)
-    → ((task : TaskPart) → first task → first ((effect_in (shared s) (thread_part s x.task) x).own (lock_left (shared s) (thread_part s x.task) x) task))
+-- from what the slot of its own task leaves on
+slots-left : (first second third P : TaskPart → Type 0) (s : State) (e x : Event) (u : TaskId) → e ≡ x → SlotsThere (touched x.kind x) (length s.tasks)
+    → first (unwrap_or (slice_get (at_task s.tasks (touched x.kind x).own ((effect_in (shared s) (thread_part s x.task) x).own (lock_left (shared s) (thread_part s x.task) x))) u.0) no_task)
     → SlotsLeave first second third P (touched x.kind x) (effect_in (shared s) (thread_part s x.task) x) (lock_left (shared s) (thread_part s x.task) x) u → P (task_part (state_after s e) u)
-slots-made first second third P s e x u is there was own leave =
+slots-left first second third P s e x u is there at_own leave =
     subst (λ (y : Event). P (task_part (state_after s y) u)) (sym is)
     (slot-left P others named.woken u (f.woken lock) (subst (λ (n : ℕ). IfSome named.woken (λ v. v.0 < n)) (sym (long_others ∙ (long_owners ∙ long_own))) there.woken)
     (leave.woken _ at_other) (leave.not_woken _ at_other))
@@ -267,9 +270,6 @@ slots-made first second third P s e x u is there was own leave =
     long_others : length others ≡ length owners
     long_others = length-at_task owners named.other (f.other lock)
 
-    at_own : first (unwrap_or (slice_get own_left u.0) no_task)
-    at_own = slot-keeps first s.tasks named.own u (f.own lock) was own
-
     at_owner : second (unwrap_or (slice_get owners u.0) no_task)
     at_owner =
         slot-left second own_left named.owner u (f.owner lock) (subst (λ (n : ℕ). IfSome named.owner (λ v. v.0 < n)) (sym long_own) there.owner) (leave.owner _ at_own) (leave.not_owner _ at_own)
@@ -277,6 +277,24 @@ slots-made first second third P s e x u is there was own leave =
     at_other : third (unwrap_or (slice_get others u.0) no_task)
     at_other =
         slot-left third owners named.other u (f.other lock) (subst (λ (n : ℕ). IfSome named.other (λ v. v.0 < n)) (sym (long_owners ∙ long_own)) there.other) (leave.other _ at_owner) (leave.not_other _ at_owner)
+
+-- where the slot of its own task keeps what holds
+pub slots-made : (first second third P : TaskPart → Type 0) (s : State) (e x : Event) (u : TaskId) → e ≡ x → SlotsThere (touched x.kind x) (length s.tasks) → first (task_part s u)
+    → ((task : TaskPart) → first task → first ((effect_in (shared s) (thread_part s x.task) x).own (lock_left (shared s) (thread_part s x.task) x) task))
+    → SlotsLeave first second third P (touched x.kind x) (effect_in (shared s) (thread_part s x.task) x) (lock_left (shared s) (thread_part s x.task) x) u → P (task_part (state_after s e) u)
+slots-made first second third P s e x u is there was own leave =
+    slots-left first second third P s e x u is there
+    (slot-keeps first s.tasks (touched x.kind x).own u ((effect_in (shared s) (thread_part s x.task) x).own (lock_left (shared s) (thread_part s x.task) x)) was own) leave
+
+-- and where its own task changes before the others
+pub own-slots-made : (first second third P : TaskPart → Type 0) (s : State) (e x : Event) (u : TaskId) → e ≡ x → SlotsThere (touched x.kind x) (length s.tasks)
+    → IfSome (touched x.kind x).own (λ v. v.0 < length s.tasks)
+    → (owned_by (touched x.kind x).own u ≡ true → first ((effect_in (shared s) (thread_part s x.task) x).own (lock_left (shared s) (thread_part s x.task) x) (task_part s u)))
+    → (owned_by (touched x.kind x).own u ≡ false → first (task_part s u))
+    → SlotsLeave first second third P (touched x.kind x) (effect_in (shared s) (thread_part s x.task) x) (lock_left (shared s) (thread_part s x.task) x) u → P (task_part (state_after s e) u)
+own-slots-made first second third P s e x u is there lt own not_own leave =
+    slots-left first second third P s e x u is there
+    (slot-left first s.tasks (touched x.kind x).own u ((effect_in (shared s) (thread_part s x.task) x).own (lock_left (shared s) (thread_part s x.task) x)) lt own not_own) leave
 
 -- another task than these changes after the lock's owner
 pub other-made : (P mid : TaskPart → Type 0) (s : State) (e x : Event) (u : TaskId) → e ≡ x → SlotsThere (touched x.kind x) (length s.tasks) → mid (task_part s u)

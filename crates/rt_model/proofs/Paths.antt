@@ -3,12 +3,13 @@ use Rattle.std.proofs.Common.{◌≡◌, ◌≢◌, ◌⊎◌, inl, inr, ℕ, ze
 use Rattle.std.specs.Prelude.{AllPairs, filter, nat_eq}
 use Rattle.std.proofs.lemmas.Bool.{cond_both, not-true, not-false}
 use Rattle.std.proofs.lemmas.Bool.Decides.{nat_tests}
-use Rattle.std.proofs.lemmas.List.Elements.{All-nil, All-head, All-tail, All-cons, All-push}
+use Rattle.std.proofs.lemmas.List.{length-append}
+use Rattle.std.proofs.lemmas.List.Elements.{All-nil, All-head, All-tail, All-cons, All-push, All-weaker}
 use Rattle.std.proofs.lemmas.List.Kept.{AllPairs-cons, AllPairs-filter}
 use Rattle.rt_base.specs.declared.id.LockId.{LockId}
 use Rattle.rt_base.specs.declared.id.TaskId.{TaskId}
 use Rattle.rt_model.specs.steps.Chain.{path_before}
-use Rattle.rt_model.specs.laws.Walks.{BeginsWith, IsFullWalk}
+use Rattle.rt_model.specs.laws.Walks.{BeginsWith, IsFullWalk, IsToConfirm}
 use Rattle.rt_model.proofs.Numbers.{same_number, other_number}
 use Rattle.rt_model.proofs.Queues.{AllPairs-head, AllPairs-tail}
 
@@ -60,13 +61,17 @@ module _ (o : TaskId) where
 
 -- ---- a walk that goes on
 
+-- the task and the lock of a link are there
+abbrev pub Within : ℕ → ℕ → ℕ × ℕ → Type 0
+Within n m link = (link.0 < n) × (link.1 < m)
+
 -- with its cursor's link, and cut before the task that is the cursor then; the walker's own link is of its lock
-pub full-goes : (n : ℕ) (t u o : TaskId) (l : LockId) (lock : Option LockId) (path : List (ℕ × ℕ)) → u.0 < n → IsFullWalk n t lock u path → (u ≡ t → lock ≡ Some l) → IsFullWalk n t lock o (path_before o (path ++ (u.0, l.0) ∷ []))
-full-goes n t u o l lock path lt full own =
+pub full-goes : (n m : ℕ) (t u o : TaskId) (l : LockId) (lock : Option LockId) (path : List (ℕ × ℕ)) → u.0 < n → l.0 < m → IsFullWalk n m t lock u path → (u ≡ t → lock ≡ Some l) → IsFullWalk n m t lock o (path_before o (path ++ (u.0, l.0) ∷ []))
+full-goes n m t u o l lock path lt within full own =
     let link : ℕ × ℕ = (u.0, l.0) in
     record {
       begins = begins-path_before o t lock (path ++ link ∷ []) (begun full.begins);
-      there = All-path_before o (λ (other : ℕ × ℕ). other.0 < n) (path ++ link ∷ []) (All-push (λ (other : ℕ × ℕ). other.0 < n) path link full.there lt);
+      there = All-path_before o (Within n m) (path ++ link ∷ []) (All-push (Within n m) path link full.there (lt, within));
       differ = AllPairs-path_before o Differ (path ++ link ∷ []) (AllPairs-push Differ path link full.differ full.ahead);
       ahead = ahead-path_before o (path ++ link ∷ []);
     }
@@ -74,6 +79,28 @@ full-goes n t u o l lock path lt full own =
     begun : ((path ≡ []) × (u ≡ t)) ⊎ BeginsWith t lock path → BeginsWith t lock (path ++ (u.0, l.0) ∷ [])
     begun (inl fresh) = subst (λ (xs : List (ℕ × ℕ)). BeginsWith t lock (xs ++ (u.0, l.0) ∷ [])) (sym fresh.0) (ap (λ (v : TaskId). v.0) fresh.1, own fresh.1)
     begun (inr begins) = begins-push t lock path (u.0, l.0) begins
+
+-- ---- a walk that comes back to its own task
+
+-- with its cursor's link, where the cursor is another task, it is to be confirmed
+pub full-confirms : (n m : ℕ) (t u : TaskId) (l : LockId) (lock : Option LockId) (path : List (ℕ × ℕ)) → u.0 < n → l.0 < m → IsFullWalk n m t lock u path → nat_eq t.0 u.0 ≡ false → IsToConfirm n m t lock (path ++ (u.0, l.0) ∷ [])
+full-confirms n m t u l lock path lt within full apart = begun full.begins
+  where
+    link : ℕ × ℕ
+    link = (u.0, l.0)
+
+    long : (path : List (ℕ × ℕ)) → BeginsWith t lock path → 2 ≤ length (path ++ link ∷ [])
+    long [] begins = absurd begins
+    long (first ∷ path) begins = let more = length-append path (link ∷ []) in omega (arith, more)
+
+    begun : ((path ≡ []) × (u ≡ t)) ⊎ BeginsWith t lock path → IsToConfirm n m t lock (path ++ link ∷ [])
+    begun (inl fresh) = absurd (other_number t.0 u.0 apart (ap (λ (v : TaskId). v.0) (sym fresh.1)))
+    begun (inr begins) = record {
+      begins = begins-push t lock path link begins;
+      many = long path begins;
+      there = All-push (Within n m) path link full.there (lt, within);
+      differ = AllPairs-push Differ path link full.differ full.ahead;
+    }
 
 -- ---- how long a path is
 
@@ -121,7 +148,7 @@ few-differ (suc n) path there differ =
     omega (arith, rest, one)
 
 -- and where their walk's cursor is another, there is room for its link
-pub full-room : (n : ℕ) (t u : TaskId) (lock : Option LockId) (path : List (ℕ × ℕ)) → u.0 < n → IsFullWalk n t lock u path → length path < n
-full-room n t u lock path lt full =
-    few-differ n ((u.0, 0) ∷ path) (All-cons (λ (link : ℕ × ℕ). link.0 < n) (u.0, 0) path lt full.there)
+pub full-room : (n m : ℕ) (t u : TaskId) (lock : Option LockId) (path : List (ℕ × ℕ)) → u.0 < n → IsFullWalk n m t lock u path → length path < n
+full-room n m t u lock path lt full =
+    few-differ n ((u.0, 0) ∷ path) (All-cons (λ (link : ℕ × ℕ). link.0 < n) (u.0, 0) path lt (All-weaker (Within n m) (λ (link : ℕ × ℕ). link.0 < n) (λ link is. is.0) path full.there))
     (AllPairs-cons Differ (u.0, 0) path (λ k d within same. full.ahead k d within (sym same)) full.differ)

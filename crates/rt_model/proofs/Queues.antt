@@ -179,14 +179,15 @@ top-insert row top rows is apart order = top-first (insert_row row (top ∷ rows
 pub top-at : (P : Row → Type 0) (rows : List Row) (row : Row) → All P rows → top_waiter rows ≡ Some row → P row
 top-at P rows row all is = subst (λ (o : Option Row). IfSome o P) is (top-holds P rows all)
 
--- the first row that passes a test, and that it is the top one of those that do
-pub find-holds : (P : Row → Type 0) (test : Row → Bool) (rows : List Row) → All P rows → IfSome (find test rows) P
+-- what holds of each holds of the first that passes a test
+pub find-holds : {X : Type 0} (P : X → Type 0) (test : X → Bool) (xs : List X) → All P xs → IfSome (find test xs) P
 find-holds P test [] all = tt
-find-holds P test (row ∷ rows) all =
-    cond_both (test row) (Some row) (find test rows) (λ (o : Option Row). IfSome o P)
-    (λ _. All-head P row rows all)
-    (λ _. find-holds P test rows (All-tail P row rows all))
+find-holds {X} P test (x ∷ xs) all =
+    cond_both (test x) (Some x) (find test xs) (λ (o : Option X). IfSome o P)
+    (λ _. All-head P x xs all)
+    (λ _. find-holds P test xs (All-tail P x xs all))
 
+-- the first row that passes one is the top one of those that do
 find-first : (test : Row → Bool) (rows : List Row) → find test rows ≡ first_row (filter test rows)
 find-first test [] = refl
 find-first test (row ∷ rows) = by_test (test row) (find-first test rows)

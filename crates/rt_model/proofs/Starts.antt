@@ -1,9 +1,9 @@
 -- The start state of a script is lawful.
 use Rattle.std.proofs.lemmas.List.{length-map, length-replicate}
 use Rattle.std.proofs.lemmas.List.Folds.{fold-map}
-use Rattle.std.proofs.Common.{◌≡◌, ◌≢◌, inl, inr, ℕ, ◌+◌, ◌<◌, ◌≤◌, false, cond, List, [], length, refl, sym, ap, ◌∙◌, subst, arith, Option, None, All, IfSome}
-use Rattle.std.specs.Prelude.{option_map}
-use Rattle.std.proofs.lemmas.List.Elements.{All-nil, All-map, All-replicate}
+use Rattle.std.proofs.Common.{◌≡◌, ◌≢◌, inl, inr, ℕ, ◌+◌, ◌<◌, ◌≤◌, true, false, cond, List, [], ◌∷◌, length, refl, sym, ap, ◌∙◌, subst, arith, Option, None, All, IfSome}
+use Rattle.std.specs.Prelude.{option_map, is_some}
+use Rattle.std.proofs.lemmas.List.Elements.{All-nil, All-head, All-map, All-replicate}
 use Rattle.std.proofs.lemmas.List.Sums.{get_or-le-sum_by}
 use Rattle.std.proofs.lemmas.Option.{slice_get_cases}
 use Rattle.rt_base.specs.Script.{Script, TaskLine, LockLine, all_calls, IsScript, IsTaskOf, IsCallOf}
@@ -24,6 +24,7 @@ use Rattle.rt_model.specs.Parts.{OwnerPart, TaskPart, ThreadPart, effective_of, 
 use Rattle.rt_model.specs.Rows.{top_waiter, top_key, task_of, queued_key}
 use Rattle.rt_model.specs.State.{start, free_lock, fresh_task, fresh_thread, no_readers, kinds_in, owner_part, task_part, thread_part}
 use Rattle.rt_model.specs.Stage.{IsPlayed, IsPlayable, IsServed, IsStaged, IsPhaseOf}
+use Rattle.rt_model.specs.Path.{Link, links_to, Edge, IsCycle}
 use Rattle.rt_model.specs.laws.Shape.{IsShaped, IsOf}
 use Rattle.rt_model.specs.laws.Rows.{IsQueue, RowsLaw, key_at}
 use Rattle.rt_model.specs.laws.KeptTops.{kept_of}
@@ -31,6 +32,7 @@ use Rattle.rt_model.specs.laws.Owners.{owned_by}
 use Rattle.rt_model.specs.laws.Queued.{QueuedLaw, present_lock, awaited_in, asked_in}
 use Rattle.rt_model.specs.laws.Walks.{IsWalkOf}
 use Rattle.rt_model.specs.laws.OwnPriorities.{OwnPrioritiesLaw}
+use Rattle.rt_model.specs.laws.Responsible.{ResponsibleLaw}
 use Rattle.rt_model.specs.laws.Lawful.{IsLawful}
 use Rattle.rt_model.proofs.Lists.{All-read, map-map, All-both, All-made, read-replicate}
 use Rattle.rt_model.proofs.Within.{HoldsFit}
@@ -45,8 +47,10 @@ lock_within script l is = elim (slice_get_cases script.locks l.0).1 [ inl here �
 -- a call of a script that is played is served
 served_in : (script : Script) (call : Call) → IsCallOf script call → IsPlayed call → IsServed (length script.tasks) (length script.locks) call
 served_in script (calls.Lock l) is played = lock_within script l is
+served_in script (calls.LockInt l) is played = lock_within script l is
 served_in script (calls.TryLock l) is played = lock_within script l is
 served_in script (calls.Unlock l) is played = lock_within script l is
+served_in script (calls.Signal t) is played = is
 served_in script (calls.SetPrio t prio) is played = is
 served_in script _ is played = absurd played
 
@@ -162,6 +166,17 @@ module _ (script : Script) where
       All-read (λ (task : TaskPart). task.own ≤ MAX_PRIO) (start script).tasks t.0 _
       (All-map (λ (task : TaskPart). task.own ≤ MAX_PRIO) (λ (line : TaskLine). fresh_task (length script.locks) line.own) script.tasks (λ i d lt. (valid.each_task i d lt).own)) (omega arith)
 
+  -- no task is blocked, and so there is no cycle
+  no_edge : (link : Link) → Edge (start script) link → ⊥
+  no_edge link is = let never : false ≡ true = sym (ap (λ (b : Option (LockId × ℕ)). is_some (key_at b link.lock)) (blocked-start link.from)) ∙ is.blocked in absurd cc
+
+  no_cycle : (cycle : List (ℕ × ℕ)) → IsCycle (start script) cycle → ⊥
+  no_cycle [] is = let many : 2 ≤ 0 = is.many in omega (arith, many)
+  no_cycle (pair ∷ path) is = no_edge _ (All-head (Edge (start script)) _ (links_to (record { 0 = pair.0 }) path) is.edges)
+
+  pub responsible-start : ResponsibleLaw (start script)
+  responsible-start cycle is = absurd (no_cycle cycle is)
+
 -- the start state is lawful
 pub IsLawful-start : (script : Script) → IsScript script → IsPlayable script → IsLawful (start script) 0
 IsLawful-start script valid mutexes = record {
@@ -178,6 +193,7 @@ IsLawful-start script valid mutexes = record {
   };
   awake = λ l free. subst (λ (rows : List Row). IfSome (top_waiter rows) (λ row. (task_part (start script) (task_of row)).state ≡ Running)) (sym (rows-start script l)) tt;
   keys = λ t apart. subst (λ (b : Option (LockId × ℕ)). IfSome b (λ at. at.1 ≡ effective_of (task_part (start script) t))) (sym (blocked-start script t)) tt;
-  walks = λ t. subst (IsWalkOf (length (start script).threads) t (present_lock (thread_part (start script) t))) (sym (phase-start script t)) tt;
+  walks = λ t. subst (IsWalkOf (length (start script).threads) (length (start script).locks) t (present_lock (thread_part (start script) t))) (sym (phase-start script t)) tt;
   priorities = OwnPrioritiesLaw-start script valid;
+  responsible = responsible-start script;
 }

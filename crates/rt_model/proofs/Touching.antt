@@ -1,7 +1,7 @@
 -- What an event touches, slot by slot.
 use Rattle.std.proofs.lemmas.Bool.{or_parts}
 use Rattle.std.proofs.lemmas.List.Folds.{list_any-append}
-use Rattle.std.proofs.Common.{◌≡◌, ℕ, Bool, true, false, List, ◌++◌, refl, sym, ◌∙◌, subst, Option, Some, None, IfSome}
+use Rattle.std.proofs.Common.{◌≡◌, ℕ, Bool, true, false, List, [], ◌∷◌, ◌++◌, map, refl, sym, ◌∙◌, subst, Option, Some, None, IfSome}
 use Rattle.std.specs.Prelude.{nat_eq}
 use Rattle.std.specs.List.{list_any}
 use Rattle.rt_base.specs.declared.id.LockId.{LockId}
@@ -9,10 +9,11 @@ use Rattle.rt_base.specs.declared.id.TaskId.{TaskId}
 use Rattle.rt_model.specs.declared.event.Event.{Event}
 use Rattle.rt_model.specs.declared.obj.Obj.{Obj}
 use Rattle.rt_model.specs.declared.obj.Obj.TheVariants as objects
+use Rattle.rt_model.specs.steps.Chain.{is_on_path}
 use Rattle.rt_model.specs.Effect.{Touched}
 use Rattle.rt_model.specs.Rules.{touched}
-use Rattle.rt_model.specs.Footprint.{same_object, owner_parts, reader_parts, tasks_of, objects_of, touches}
-use Rattle.rt_model.proofs.Numbers.{number_itself}
+use Rattle.rt_model.specs.Footprint.{same_object, owner_parts, reader_parts, tasks_of, along, objects_of, touches}
+use Rattle.rt_model.proofs.Numbers.{number_itself, other_way}
 
 -- the first doesn't pass the test, and none of the rest
 record IsSplit (First : Type 0) (p : Obj → Bool) (rest : List Obj) : Type 0 where
@@ -43,6 +44,7 @@ pub record IsApart (p : Obj → Bool) (named : Touched) : Type 0 where
   pub owner : IfSome named.owner (λ t. p (objects.Task t) ≡ false)
   pub other : IfSome named.other (λ t. p (objects.Task t) ≡ false)
   pub woken : IfSome named.woken (λ t. p (objects.Task t) ≡ false)
+  pub path : list_any p (along named.path) ≡ false
 
 pub apart : (p : Obj → Bool) (named : Touched) → list_any p (objects_of named) ≡ false → IsApart p named
 apart p named is =
@@ -52,7 +54,7 @@ apart p named is =
     let owner = parts p (tasks_of named.owner) _ own.others in
     let other = parts p (tasks_of named.other) _ owner.others in
     let woken = parts p (tasks_of named.woken) _ other.others in
-    record { lock = in_lock p _ lock.here; readers = in_readers p _ readers.here; own = in_task p _ own.here; owner = in_task p _ owner.here; other = in_task p _ other.here; woken = in_task p _ woken.here }
+    record { lock = in_lock p _ lock.here; readers = in_readers p _ readers.here; own = in_task p _ own.here; owner = in_task p _ owner.here; other = in_task p _ other.here; woken = in_task p _ woken.here; path = woken.others }
 
 pub apart-not : (e : Event) (o : Obj) → touches e o ≡ false → IsApart (same_object o) (touched e.kind e)
 apart-not e o is = apart (same_object o) (touched e.kind e) (or_parts (same_object o (objects.Thread e.task)) (list_any (same_object o) (objects_of (touched e.kind e))) is).1
@@ -67,6 +69,20 @@ not_itself : {X : Type 0} (number : X → ℕ) (named : Option X) (x : X) → na
 not_itself {X} number named x is none =
     let here : nat_eq (number x) (number x) ≡ false = subst (λ (o : Option X). IfSome o (λ y. nat_eq (number x) (number y) ≡ false)) is none in
     let itself = number_itself (number x) in cc
+
+-- a task that is nothing along a path isn't on it
+on_path : (u : TaskId) (path : List (ℕ × ℕ))
+    → list_any (same_object (objects.Task u)) (map (λ (pair : ℕ × ℕ). objects.Task (record { 0 = pair.0 })) path) ≡ false → is_on_path u path ≡ false
+on_path u [] none = refl
+on_path u (pair ∷ path) none =
+    let both = or_parts (nat_eq u.0 pair.0) _ none in
+    let here = other_way (record { 0 = pair.0 }) u both.0 in
+    let later = on_path u path both.1 in rw (here, later) refl
+
+along-on_path : (u : TaskId) (path : List (ℕ × ℕ))
+    → list_any (same_object (objects.Task u)) (along path) ≡ false → is_on_path u path ≡ false
+along-on_path u [] none = refl
+along-on_path u (pair ∷ path) none = on_path u (pair ∷ path) none
 
 module _ (e : Event) where
   pub touches-thread : touches e (objects.Thread e.task) ≡ true
@@ -86,3 +102,6 @@ module _ (e : Event) where
 
   pub touches-other : (t : TaskId) → (touched e.kind e).other ≡ Some t → touches e (objects.Task t) ≡ true
   touches-other t is = by_contra _ (λ none. not_itself (λ (u : TaskId). u.0) _ t is (apart-not e (objects.Task t) none).other)
+
+  pub touches-path : (u : TaskId) → is_on_path u (touched e.kind e).path ≡ true → touches e (objects.Task u) ≡ true
+  touches-path u is = by_contra _ (λ none. let off = along-on_path u _ (apart-not e (objects.Task u) none).path in cc)

@@ -1,6 +1,8 @@
 -- What a lawful state says of a task in a phase.
-use Rattle.std.proofs.Common.{◌≡◌, ℕ, ◌<◌, false, cond, List, length, refl, sym, ap, ◌∙◌, subst, Option, Some, None, IfSome}
+use Rattle.std.proofs.Common.{◌≡◌, ◌≢◌, ℕ, ◌<◌, ◌≤◌, false, cond, List, [], ◌∷◌, length, arith, refl, sym, ap, ◌∙◌, subst, Option, Some, None, IfSome}
 use Rattle.std.specs.Prelude.{nat_eq, option_map, option_and_then}
+use Rattle.std.proofs.lemmas.Bool.Decides.{nat_tests}
+use Rattle.std.proofs.lemmas.List.Elements.{All-head, All-tail}
 use Rattle.rt_base.specs.declared.call.Call.{Call}
 use Rattle.rt_base.specs.declared.call.Call.TheVariants as calls
 use Rattle.rt_base.specs.declared.id.LockId.{LockId}
@@ -14,14 +16,14 @@ use Rattle.rt_model.specs.Parts.{ThreadPart, call_of}
 use Rattle.rt_model.specs.Rows.{queued_key}
 use Rattle.rt_model.specs.State.{State, owner_part, task_part, thread_part}
 use Rattle.rt_model.specs.Choice.{called_lock}
-use Rattle.rt_model.specs.Stage.{IsPhaseOf, IsStaged}
+use Rattle.rt_model.specs.Stage.{IsServed, IsPhaseOf, IsStaged}
 use Rattle.rt_model.specs.laws.Lawful.{IsLawful}
 use Rattle.rt_model.specs.laws.Queued.{present_lock, awaited_in, asked_in, QueuedLaw}
 use Rattle.rt_model.specs.laws.Rows.{key_at}
 use Rattle.rt_model.specs.laws.Owners.{owned_by}
 use Rattle.rt_model.specs.laws.Phases.{PhasesLaw}
-use Rattle.rt_model.specs.laws.Walks.{IsFullWalk, IsWalkOf}
-use Rattle.rt_model.proofs.Calling.{IsIn, served_call}
+use Rattle.rt_model.specs.laws.Walks.{IsFullWalk, IsToConfirm, IsWalkOf}
+use Rattle.rt_model.proofs.Calling.{IsIn, served_call, WaitsFor, waits-holds, waits-called, waits-about, Asks, asks-present}
 use Rattle.rt_model.proofs.events.Acquire.{TakesIn, from_slow, from_wait, from_trylock}
 use Rattle.rt_model.proofs.events.Walk.{WalksIn, by_full, by_short, IsWalk}
 
@@ -45,6 +47,9 @@ module _ (s : State) (made : ℕ) (t : TaskId) (lawful : IsLawful s made) where
       (subst (λ (c : Option Call). blocking (task_part s t).blocked ≡ awaited_in (thread_part s t).phase (option_and_then (called_lock (thread_part s t).cpu) c)) at.calling
       (lawful.queued.blocked t))
 
+  pub asks-awaited : (phase : Phase) (l : LockId) → Asks s t phase l → blocking (task_part s t).blocked ≡ awaited_in phase (Some l)
+  asks-awaited phase l is = awaited phase is.call is.at ∙ ap (awaited_in phase) (waits-called (thread_part s t).cpu is.call l is.waits_for)
+
   -- before a call's first event and with the bit set it is blocked on nothing
   pub start-blocked : (call : Call) → IsIn s t phases.Start call → (task_part s t).blocked ≡ None
   start-blocked call at = not_blocking (task_part s t).blocked (awaited phases.Start call at)
@@ -53,8 +58,8 @@ module _ (s : State) (made : ℕ) (t : TaskId) (lawful : IsLawful s made) where
   slow-blocked call at = not_blocking (task_part s t).blocked (awaited phases.Slow call at)
 
   -- one that takes a lock, or waits, is blocked on no other
-  pub wait-elsewhere : (l m : LockId) → IsIn s t phases.Wait (calls.Lock l) → nat_eq l.0 m.0 ≡ false → key_at (task_part s t).blocked m ≡ None
-  wait-elsewhere l m at ne = key_elsewhere (task_part s t).blocked l m (awaited phases.Wait (calls.Lock l) at) ne
+  pub wait-elsewhere : (l m : LockId) → Asks s t phases.Wait l → nat_eq l.0 m.0 ≡ false → key_at (task_part s t).blocked m ≡ None
+  wait-elsewhere l m is ne = key_elsewhere (task_part s t).blocked l m (asks-awaited phases.Wait l is) ne
 
   pub slow-nowhere : (m : LockId) (call : Call) → IsIn s t phases.Slow call → key_at (task_part s t).blocked m ≡ None
   slow-nowhere m call at = ap (λ (b : Option (LockId × ℕ)). key_at b m) (slow-blocked call at)
@@ -63,50 +68,59 @@ module _ (s : State) (made : ℕ) (t : TaskId) (lawful : IsLawful s made) where
   slow-unqueued m call at = lawful.rows.rows m t ∙ slow-nowhere m call at
 
   -- and with the bit set it doesn't own the lock that it asks for
-  pub slow-unowned : (l : LockId) → IsIn s t phases.Slow (calls.Lock l) → owned_by (owner_part s l).owner t ≡ false
-  slow-unowned l at =
-      subst (λ (p : Phase). IfSome (asked_in p (Some l)) (λ k. owned_by (owner_part s k).owner t ≡ false)) at.phased
-      (subst (λ (c : Option Call). IfSome (asked_in (thread_part s t).phase (option_and_then (called_lock (thread_part s t).cpu) c)) (λ k. owned_by (owner_part s k).owner t ≡ false)) at.calling
-      (lawful.queued.asking t))
+  pub slow-unowned : (l : LockId) → Asks s t phases.Slow l → owned_by (owner_part s l).owner t ≡ false
+  slow-unowned l is =
+      subst (λ (lock : Option LockId). IfSome (asked_in phases.Slow lock) (λ k. owned_by (owner_part s k).owner t ≡ false)) (asks-present s t phases.Slow l is)
+      (subst (λ (p : Phase). IfSome (asked_in p (present_lock (thread_part s t))) (λ k. owned_by (owner_part s k).owner t ≡ false)) is.at.phased (lawful.queued.asking t))
 
   -- a task that takes a lock is blocked on no other
   pub take-elsewhere : (l m : LockId) → TakesIn s t l → nat_eq l.0 m.0 ≡ false → key_at (task_part s t).blocked m ≡ None
-  take-elsewhere l m (from_slow at) ne = slow-nowhere m (calls.Lock l) at
-  take-elsewhere l m (from_wait at running) ne = wait-elsewhere l m at ne
+  take-elsewhere l m (from_slow is) ne = slow-nowhere m is.call is.at
+  take-elsewhere l m (from_wait is awake) ne = wait-elsewhere l m is ne
   take-elsewhere l m (from_trylock at) ne = ap (λ (b : Option (LockId × ℕ)). key_at b m) (start-blocked (calls.TryLock l) at)
 
 -- ---- who is blocked, and on what
 
--- the phases in which a task is queued: it waits, or its own full walk is under way
+-- the phases in which a task is queued: it waits, or its own full walk is under way or to be confirmed
 pub data QueuedIn (phase : Phase) : Type 0 where
   in_wait : phase ≡ phases.Wait → QueuedIn phase
   in_walk : (cursor : TaskId) (path : List (ℕ × ℕ)) → phase ≡ phases.Walk cursor (Full path) → QueuedIn phase
+  in_confirm : (path : List (ℕ × ℕ)) → phase ≡ phases.Confirm path → QueuedIn phase
 
--- the thread waits in a call of this lock, which is there
-pub record WaitsFor (s : State) (u : TaskId) (l : LockId) : Type 0 where
+-- the thread waits in a call for this lock, which is there
+pub record Awaits (s : State) (u : TaskId) (l : LockId) : Type 0 where
   pub phase : QueuedIn (thread_part s u).phase
-  pub call : call_of (thread_part s u) ≡ Some (calls.Lock l)
+  pub call : Call
+  pub waits_for : WaitsFor call l
+  pub calling : call_of (thread_part s u) ≡ Some call
   pub lock : l.0 < length s.locks
 
 -- the phase and the call in which a lock is awaited
-awaits : (thread : ThreadPart) (l : LockId) (phase : Phase) (call : Option Call) → IsPhaseOf phase call → Some l ≡ awaited_in phase (option_and_then (called_lock thread.cpu) call)
-    → QueuedIn phase × (call ≡ Some (calls.Lock l))
+awaits : (thread : ThreadPart) (l : LockId) (phase : Phase) (call : Option Call) → IsPhaseOf phase call → awaited_in phase (option_and_then (called_lock thread.cpu) call) ≡ Some l
+    → QueuedIn phase × (c : Call) × WaitsFor c l × (call ≡ Some c)
 awaits thread l phases.Start call fits is = cc
 awaits thread l phases.Slow call fits is = cc
-awaits thread l phases.Wait (Some (calls.Lock m)) fits is = let same : l ≡ m = cc in (in_wait refl, ap (λ (n : LockId). Some (calls.Lock n)) (sym same))
-awaits thread l phases.Wait (Some _) fits is = absurd fits
+awaits thread l phases.Wait (Some c) fits is = (in_wait refl, c, waits-about thread.cpu c l fits is, refl)
 awaits thread l phases.Wait None fits is = absurd fits
-awaits thread l (phases.Walk cursor (Full path)) (Some (calls.Lock m)) fits is = let same : l ≡ m = cc in (in_walk cursor path refl, ap (λ (n : LockId). Some (calls.Lock n)) (sym same))
-awaits thread l (phases.Walk cursor (Full path)) (Some _) fits is = absurd fits
+awaits thread l (phases.Walk cursor (Full path)) (Some c) fits is = (in_walk cursor path refl, c, waits-about thread.cpu c l fits is, refl)
 awaits thread l (phases.Walk cursor (Full path)) None fits is = absurd fits
 awaits thread l (phases.Walk cursor (Short answer)) call fits is = cc
+awaits thread l (phases.Confirm path) (Some c) fits is = (in_confirm path refl, c, waits-about thread.cpu c l fits is, refl)
+awaits thread l (phases.Confirm path) None fits is = absurd fits
 awaits thread l _ call fits is = absurd fits
 
 -- a blocked task waits for the lock on which it is blocked
-pub WaitsFor-blocked : (s : State) (u : TaskId) (at : LockId × ℕ) → IsStaged s → PhasesLaw s → QueuedLaw s → (task_part s u).blocked ≡ Some at → WaitsFor s u at.0
+pub WaitsFor-blocked : (s : State) (u : TaskId) (at : LockId × ℕ) → IsStaged s → PhasesLaw s → QueuedLaw s → (task_part s u).blocked ≡ Some at → Awaits s u at.0
 WaitsFor-blocked s u at staged phased queued is =
-    let both = awaits (thread_part s u) at.0 (thread_part s u).phase (call_of (thread_part s u)) (phased u) (sym (ap blocking is) ∙ queued.blocked u) in
-    record { phase = both.0; call = both.1; lock = served_call s u (calls.Lock at.0) staged both.1 }
+    let found = awaits (thread_part s u) at.0 (thread_part s u).phase (call_of (thread_part s u)) (phased u) (sym (queued.blocked u) ∙ ap blocking is) in
+    let Within : Call → Type 0 = λ c. IsServed (length s.threads) (length s.locks) c → at.0.0 < length s.locks in
+    record {
+      phase = found.0;
+      call = found.1;
+      waits_for = found.2;
+      calling = found.3;
+      lock = waits-holds Within found.1 at.0 found.2 (λ served. served) (λ served. served) (served_call s u found.1 staged found.3);
+    }
 
 -- and doesn't own that lock
 pub blocked-unowned : (s : State) (u : TaskId) (at : LockId × ℕ) → QueuedLaw s → (task_part s u).blocked ≡ Some at → owned_by (owner_part s at.0).owner u ≡ false
@@ -116,22 +130,61 @@ blocked-unowned s u at queued is = subst (λ (b : Option (LockId × ℕ)). IfSom
 
 -- the phase of a walk
 pub walk-phase : (s : State) (t : TaskId) (route : Route) (u : TaskId) → WalksIn s t route u → (thread_part s t).phase ≡ phases.Walk u route
-walk-phase s t route u (by_full path l same at) = at.phased
-walk-phase s t route u (by_short v prio same at) = at.phased
+walk-phase s t route u (by_full path l same is) = is.at.phased
+walk-phase s t route u (by_short call answer same at to_come) = at.phased
 
 -- its cursor is there
 pub cursor-there : (s : State) (made : ℕ) (t : TaskId) (route : Route) (u : TaskId) → IsLawful s made → WalksIn s t route u → u.0 < length s.threads
-cursor-there s made t route u lawful how = of_route route (subst (IsWalkOf (length s.threads) t (present_lock (thread_part s t))) (walk-phase s t route u how) (lawful.walks t))
+cursor-there s made t route u lawful how = of_route route (subst (IsWalkOf (length s.threads) (length s.locks) t (present_lock (thread_part s t))) (walk-phase s t route u how) (lawful.walks t))
   where
-    of_route : (r : Route) → IsWalkOf (length s.threads) t (present_lock (thread_part s t)) (phases.Walk u r) → u.0 < length s.threads
+    of_route : (r : Route) → IsWalkOf (length s.threads) (length s.locks) t (present_lock (thread_part s t)) (phases.Walk u r) → u.0 < length s.threads
     of_route (Full path) is = is.0
     of_route (Short answer) is = is
 
 -- and a full one has such a path
-pub full-walk : (s : State) (made : ℕ) (t : TaskId) (u : TaskId) (path : List (ℕ × ℕ)) (l : LockId) → IsLawful s made → IsIn s t (phases.Walk u (Full path)) (calls.Lock l) → IsFullWalk (length s.threads) t (Some l) u path
-full-walk s made t u path l lawful at =
-    subst (λ (c : Option Call). IsFullWalk (length s.threads) t (option_and_then (called_lock (thread_part s t).cpu) c) u path) at.calling
-    (subst (IsWalkOf (length s.threads) t (present_lock (thread_part s t))) at.phased (lawful.walks t)).1
+pub full-walk : (s : State) (made : ℕ) (t : TaskId) (u : TaskId) (path : List (ℕ × ℕ)) (l : LockId) → IsLawful s made → Asks s t (phases.Walk u (Full path)) l → IsFullWalk (length s.threads) (length s.locks) t (Some l) u path
+full-walk s made t u path l lawful is =
+    subst (λ (lock : Option LockId). IsFullWalk (length s.threads) (length s.locks) t lock u path) (asks-present s t (phases.Walk u (Full path)) l is)
+    (subst (IsWalkOf (length s.threads) (length s.locks) t (present_lock (thread_part s t))) is.at.phased (lawful.walks t)).1
+
+-- and so has one that is to be confirmed
+pub confirm-walk : (s : State) (made : ℕ) (t : TaskId) (path : List (ℕ × ℕ)) (l : LockId) → IsLawful s made → Asks s t (phases.Confirm path) l → IsToConfirm (length s.threads) (length s.locks) t (Some l) path
+confirm-walk s made t path l lawful is =
+    subst (λ (lock : Option LockId). IsToConfirm (length s.threads) (length s.locks) t lock path) (asks-present s t (phases.Confirm path) l is)
+    (subst (IsWalkOf (length s.threads) (length s.locks) t (present_lock (thread_part s t))) is.at.phased (lawful.walks t))
+
+-- it begins with the task and its lock, and leads to another task
+pub record IsRound (s : State) (t : TaskId) (l : LockId) (path : List (ℕ × ℕ)) : Type 0 where
+  pub owner : TaskId
+  pub next : LockId
+  pub rest : List (ℕ × ℕ)
+  pub is : path ≡ (t.0, l.0) ∷ (owner.0, next.0) ∷ rest
+  pub there : owner.0 < length s.threads
+  pub other : nat_eq t.0 owner.0 ≡ false
+
+round : (s : State) (t : TaskId) (l : LockId) (path : List (ℕ × ℕ)) → IsToConfirm (length s.threads) (length s.locks) t (Some l) path → IsRound s t l path
+round s t l [] is = absurd is.begins
+round s t l (pair ∷ []) is = let many : 2 ≤ 1 = is.many in absurd (omega (arith, many))
+round s t l (pair ∷ second ∷ rest) is = record {
+  owner = record { 0 = second.0 };
+  next = record { 0 = second.1 };
+  rest = rest;
+  is = λ i. (is.begins.0 i, lock (sym is.begins.1) i) ∷ second ∷ rest;
+  there = (All-head Within second rest (All-tail Within pair (second ∷ rest) is.there)).0;
+  other = apart (is.differ 0 1 pair (omega arith) (omega arith));
+}
+  where
+    Within : ℕ × ℕ → Type 0
+    Within pair = (pair.0 < length s.threads) × (pair.1 < length s.locks)
+
+    lock : Some (record { 0 = pair.1 }) ≡ Some l → pair.1 ≡ l.0
+    lock same = let one : record { 0 = pair.1 } ≡ l = cc in ap (λ (m : LockId). m.0) one
+
+    apart : pair.0 ≢ second.0 → nat_eq t.0 second.0 ≡ false
+    apart differ = grind (arith, nat_tests)
+
+pub round-begins : (s : State) (made : ℕ) (t : TaskId) (path : List (ℕ × ℕ)) (l : LockId) → IsLawful s made → Asks s t (phases.Confirm path) l → IsRound s t l path
+round-begins s made t path l lawful is = round s t l path (confirm-walk s made t path l lawful is)
 
 -- what a link finds: the cursor and the lock are there, and the cursor doesn't own that lock
 pub record IsLink (s : State) (u : TaskId) (l : LockId) : Type 0 where

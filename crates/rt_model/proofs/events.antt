@@ -3,5 +3,7 @@ pub mod Own
 pub mod Acquire
 pub mod Release
 pub mod Wait
+pub mod Taking
 pub mod Walk
+pub mod Confirm
 pub mod Wakeups

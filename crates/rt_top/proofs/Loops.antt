@@ -4,6 +4,7 @@ use Rattle.rt_base.specs.Script.{Script}
 use Rattle.rt_base.specs.declared.fault.Failed.{Failed}
 use Rattle.rt_base.specs.declared.id.TaskId.{TaskId}
 use Rattle.rt_base.specs.Outside.{Rises}
+use Rattle.rt_model.specs.declared.event.Event.{Event}
 use Rattle.rt_model.specs.State.{State}
 use Rattle.rt_model.specs.laws.Shape.{IsOf}
 use Rattle.rt_model.specs.NextEvent.{next_event}
@@ -41,29 +42,29 @@ chosen-some n s last t is = rw is refl
 
 -- a fault at a task's move
 pub stopped : {script : Script} {first : ℕ} {s0 : State} {whole rest : Played} {s : State} {made0 made : ℕ} {now : Progress} {h0 : Option (List ℕ)} {b0 : List ℕ} {h : Option (List ℕ)} {b : List ℕ} {f0 f room0 room : ℕ} {T : Type 0} (result : Result T Failed)
-    (cont : State → Option TaskId → Played) (t : TaskId) (core' : Made) (h' : Option (List ℕ)) (b' : List ℕ) (f' : ℕ)
-    → rest ≡ then_play cont s now.last t (next_event s t) → Looping script first s0 whole rest s made0 made now h0 b0 h b f0 f room0 room
-    → Stops script first (next_event s t) s core'.state now h b h' → core'.made ≡ made → Rises f f' → f ≤ f' → IsErr result
+    (cont : State → Option TaskId → Played) (t : TaskId) (next : Option Event) (core' : Made) (h' : Option (List ℕ)) (b' : List ℕ) (f' : ℕ)
+    → rest ≡ then_play cont s now.last t next → Looping script first s0 whole rest s made0 made now h0 b0 h b f0 f room0 room
+    → Stops script first next s core'.state now h b h' → core'.made ≡ made → Rises f f' → f ≤ f' → IsErr result
     → Prints result h0 b0 h' b' f0 f' (lines_of script first whole.events) × IsPartMade (record { state = s0; made = made0 }) core' whole.events
-stopped (Ok x) cont t core' h' b' f' is looping stops same rises le err = cc err
-stopped {script} {first} {s0} {whole} {rest} {s} {made0} {made} {now} {h0} {b0} {h} {b} {f0} {f} (Err e) cont t core' h' b' f' is looping stops same rises le err =
+stopped (Ok x) cont t next core' h' b' f' is looping stops same rises le err = cc err
+stopped {script} {first} {s0} {whole} {rest} {s} {made0} {made} {now} {h0} {b0} {h} {b} {f0} {f} (Err e) cont t next core' h' b' f' is looping stops same rises le err =
     let going = subst (λ (r : Played). Going script first s0 whole r s now.count h0 b0 h b) is looping.going in
-    let cut = stops_at script first s0 whole cont s core'.state t (next_event s t) now h0 b0 h b h' stops going in
+    let cut = stops_at script first s0 whole cont s core'.state t next now h0 b0 h b h' stops going in
     let part = cut.1 in
     let made_part : core'.made ≡ made0 + length part.0 = omega (arith, looping.made_is, part.4) in
     (record { whole = tt; no_fault = tt; part = cut.0; cause = omega (arith, looping.no_fault, rises); count = omega (arith, looping.no_fault) }, (part.0, part.1, part.2, part.3, made_part))
 
 -- a task's move
 pub moved : {script : Script} {first : ℕ} {s0 : State} {whole rest : Played} {s : State} {made0 made : ℕ} {now : Progress} {h0 : Option (List ℕ)} {b0 : List ℕ} {h : Option (List ℕ)} {b : List ℕ} {f0 f room0 room : ℕ}
-    (cont : State → Option TaskId → Played) (t : TaskId) (s' : State) (made' : ℕ) (now' : Progress) (h' : Option (List ℕ)) (b' : List ℕ) (f' room' : ℕ)
-    → rest ≡ then_play cont s now.last t (next_event s t) → Looping script first s0 whole rest s made0 made now h0 b0 h b f0 f room0 room
-    → Moves script first t (next_event s t) s s' now now' h b h' b' → made' + now.count ≡ made + now'.count → f' ≡ f → room ≤ room' → IsOf script s'
+    (cont : State → Option TaskId → Played) (t : TaskId) (next : Option Event) (s' : State) (made' : ℕ) (now' : Progress) (h' : Option (List ℕ)) (b' : List ℕ) (f' room' : ℕ)
+    → rest ≡ then_play cont s now.last t next → Looping script first s0 whole rest s made0 made now h0 b0 h b f0 f room0 room
+    → Moves script first t next s s' now now' h b h' b' → made' + now.count ≡ made + now'.count → f' ≡ f → room ≤ room' → IsOf script s'
     → (IfSome now.last (λ u. u.0 < length script.tasks) → IfSome now'.last (λ u. u.0 < length script.tasks))
     → Looping script first s0 whole (cont s' now'.last) s' made0 made' now' h0 b0 h' b' f0 f' room0 room'
-moved {script} {first} {s0} {whole} {rest} {s} {made0} {made} {now} {h0} {b0} {h} {b} cont t s' made' now' h' b' f' room' is looping moves counts no_fault le_room script_is last_in =
+moved {script} {first} {s0} {whole} {rest} {s} {made0} {made} {now} {h0} {b0} {h} {b} cont t next s' made' now' h' b' f' room' is looping moves counts no_fault le_room script_is last_in =
     let going = subst (λ (r : Played). Going script first s0 whole r s now.count h0 b0 h b) is looping.going in
     record {
-      going = moves_on script first s0 whole cont s s' t (next_event s t) now now' h0 b0 h b h' b' moves going;
+      going = moves_on script first s0 whole cont s s' t next now now' h0 b0 h b h' b' moves going;
       made_is = omega (arith, looping.made_is, counts);
       script_is = script_is;
       no_fault = no_fault ∙ looping.no_fault;
@@ -87,11 +88,11 @@ pub chosen_within : (script : Script) (s : State) (last : Option TaskId) (t : Ta
 chosen_within script s last t is chosen last_in = subst (λ (n : ℕ). t.0 < n) (IsOf-threads script s is) (chosen_below s last t chosen (subst (λ (n : ℕ). IfSome last (λ u. u.0 < n)) (sym (IsOf-threads script s is)) last_in))
 
 -- one of the turns that are left
-pub chosen-left : (turns turn : ℕ) (s : State) (last : Option TaskId) (t : TaskId) → turn < turns → chosen_task s last ≡ Some t
-    → chosen (turns - turn) s last ≡ then_play (chosen (turns - (turn + 1))) s last t (next_event s t)
-chosen-left turns turn s last t lt is =
+pub chosen-left : (turns turn : ℕ) (s : State) (last : Option TaskId) (e : Event) → turn < turns → chosen_task s last ≡ Some e.task → next_event s e.task ≡ Some e
+    → chosen (turns - turn) s last ≡ then_play (chosen (turns - (turn + 1))) s last e.task (Some e)
+chosen-left turns turn s last e lt is next =
     let left : turns - turn ≡ suc (turns - (turn + 1)) = omega arith in
-    ap (λ (n : ℕ). chosen n s last) left ∙ chosen-some (turns - (turn + 1)) s last t is
+    ap (λ (n : ℕ). chosen n s last) left ∙ (chosen-some (turns - (turn + 1)) s last e.task is ∙ ap (λ (o : Option Event). then_play (chosen (turns - (turn + 1))) s last e.task o) next)
 
 -- all is made
 pub all_made : (core0 core : Made) (whole : Played) (count : ℕ) → Leads core0.state whole → core.state ≡ whole.state → core.made ≡ core0.made + count → count ≡ length whole.events → IsPartMade core0 core whole.events

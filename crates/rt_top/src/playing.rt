@@ -14,7 +14,7 @@ ghost use Rattle.rt_top.specs.Printing.{Prints};
 ghost use Rattle.rt_top.specs.Playing.{IsPartMade, Moves, Stops};
 ghost use Rattle.rt_top.specs.Turns.{IsCutShort};
 
-use crate::order::pick_next;
+use crate::order::next_chosen;
 use crate::printing::{flush, flush_if_full};
 use crate::progress::Progress;
 use rt_base::limits::LINE_LIMIT;
@@ -51,6 +51,42 @@ fn make_event<K: Sink>(
     Ok(())
 }
 
+/// Makes an event of the run, the next one of its task.
+fn play_event<K: Sink>(
+    core: &mut Core,
+    script: &Script,
+    e: &Event,
+    first: u64,
+    so_far: Progress,
+    buf: &mut Vec<u8>,
+    out: &mut K,
+) -> Result<Progress, Failed>
+    requires next { next_event core.old.state e.now.task ≡ Some e.now }
+    requires entry { IsWellFormed script.now (entry (first + so_far.count) e.now) }
+    requires task { e.now.task.0 < length script.now.tasks }
+    requires script { IsOf script.now core.old.state }
+    requires made { core.old.made < 2 ^ 62 }
+    requires number { first + so_far.count < 2 ^ 63 }
+    requires room { LINE_LIMIT ≤ vec_capacity buf.old }
+    ensures moves { IfOk result (λ now. Moves script.now first e.now.task (Some e.now) core.old.state core.new.state so_far now (K.held out.old) buf.old.items (K.held out.new) buf.new.items) }
+    ensures made { IfOk result (λ now. core.new.made + so_far.count ≡ core.old.made + now.count) }
+    ensures few { IfOk result (λ now. now.count ≤ so_far.count + 1) }
+    ensures within { IfOk result (λ now. IfSome so_far.last (λ u. u.0 < length script.now.tasks) → IfSome now.last (λ u. u.0 < length script.now.tasks)) }
+    ensures no_fault { OnOk result (K.faults out.new ≡ K.faults out.old) }
+    ensures stops { OnErr result (Stops script.now first (Some e.now) core.old.state core.new.state so_far (K.held out.old) buf.old.items (K.held out.new)) }
+    ensures err { OnErr result (core.new ≡ core.old) }
+    ensures cause { OnErr result (Rises (K.faults out.old) (K.faults out.new)) }
+    ensures count { K.faults out.old ≤ K.faults out.new }
+    ensures script { IsOf script.now core.new.state }
+    ensures capacity { vec_capacity buf.old ≤ vec_capacity buf.new }
+{
+    make_event(core, script, e, first + so_far.count, buf, out)?;
+    Ok(Progress {
+        count: so_far.count + 1,
+        last: Some(e.task),
+    })
+}
+
 /// Makes a task's next event and gathers its line, where it has one.
 fn play<K: Sink>(
     core: &mut Core,
@@ -78,14 +114,10 @@ fn play<K: Sink>(
     ensures script { IsOf script.now core.new.state }
     ensures capacity { vec_capacity buf.old ≤ vec_capacity buf.new }
 {
-    let Some(e) = core.next(t) else {
-        return Ok(so_far);
-    };
-    make_event(core, script, &e, first + so_far.count, buf, out)?;
-    Ok(Progress {
-        count: so_far.count + 1,
-        last: Some(t),
-    })
+    match core.next(t) {
+        Some(e) => play_event(core, script, &e, first, so_far, buf, out),
+        None => Ok(so_far),
+    }
 }
 
 /// Makes the picks' events in order and gathers their lines, passing over a pick of a task that has no
@@ -179,10 +211,10 @@ fn play_chosen<K: Sink>(
 {
     let mut now = Progress { count: 0, last };
     for _turn in 0..turns {
-        let Some(t) = pick_next(core, now.last) else {
+        let Some(e) = next_chosen(core, now.last) else {
             return Ok(now);
         };
-        now = play(core, script, t, first, now, buf, out)?;
+        now = play_event(core, script, &e, first, now, buf, out)?;
     }
     Ok(now)
 }

@@ -1,5 +1,5 @@
 -- How a walk goes on from a link, by what it finds of the owner of the lock there.
-use Rattle.std.specs.Prelude.{ℕ, Bool, not, ◌&&◌, ◌||◌, List, length, take, Option, Some, None, option_map, is_some, if◌then◌else◌}
+use Rattle.std.specs.Prelude.{ℕ, Bool, not, ◌&&◌, List, length, take, Option, Some, None, option_map, is_some, nat_eq, if◌then◌else◌}
 use Rattle.rt_base.specs.declared.id.TaskId.{TaskId}
 use Rattle.rt_base.specs.declared.reply.Reply.{Reply}
 use Rattle.rt_model.specs.declared.phase.Phase.{Phase}
@@ -13,19 +13,23 @@ use Rattle.rt_walk.specs.declared.next.Next.TheVariants.{End, Confirm, To}
 
 -- ---- by the owner: who it is, whether it is blocked, and whether its key is its effective priority
 
--- a walk ends at an owner that isn't blocked; and at one whose key is right, where the walk is short, or the owner is a task of
--- its path
-abbrev pub ends_at : Bool → List (ℕ × ℕ) → TaskId → Bool → Bool → Bool
-ends_at full path t blocked right = not blocked || right && (not full || is_on_path t path)
+-- a full walk ends at an owner that isn't blocked; where it comes back to its own task it is to be confirmed; at another task of
+-- its path it ends, but where that one's key is old it goes on there, and the links before the task's own stay
+abbrev pub full_after : TaskId → List (ℕ × ℕ) → TaskId → Bool → Bool → Next
+full_after walker path o blocked right =
+    if not blocked then End
+    else if nat_eq o.0 walker.0 then Confirm
+    else if is_on_path o path && right then End
+    else To o (length (path_before o path))
 
--- else it goes on there, and of a full walk's path the links before the owner's own stay
-abbrev pub links_kept : Bool → List (ℕ × ℕ) → TaskId → ℕ
-links_kept full path t = if full then length (path_before t path) else length path
+-- a short walk goes on to an owner whose key is old
+abbrev pub short_after : List (ℕ × ℕ) → TaskId → Bool → Bool → Next
+short_after path o blocked right = if blocked && not right then To o (length path) else End
 
--- how a walk goes on; at a lock without owner it ends
-abbrev pub next_after : Bool → List (ℕ × ℕ) → Option (TaskId × Bool × Bool) → Next
-next_after full path None = End
-next_after full path (Some (t, blocked, right)) = if ends_at full path t blocked right then End else To t (links_kept full path t)
+-- how a walk of a task goes on; at a lock without owner it ends
+abbrev pub next_after : TaskId → Bool → List (ℕ × ℕ) → Option (TaskId × Bool × Bool) → Next
+next_after walker full path None = End
+next_after walker full path (Some (o, blocked, right)) = if full then full_after walker path o blocked right else short_after path o blocked right
 
 -- ---- by the parts of a state
 

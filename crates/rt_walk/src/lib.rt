@@ -12,11 +12,13 @@
 //! | 4 | L's top row is another one now, and L has no owner: its task is woken. | L | the caller; [`Step::new_top`] tells whom |
 //! | 5 | The walk is full: its path has the link from U to L. | W U L | the caller |
 //! | 6 | L has no owner, or O isn't blocked: the walk ends. | L O | [`after`] |
-//! | 7 | The walk is full, and O is a task of its path: the walk ends, or the path is cut where O's key is old. | W O | [`after`] |
-//! | 8 | The walk is short, and O's key isn't old: the walk ends. | W O | [`after`] |
-//! | 9 | Else the walk stands at O. | W O | [`after`] |
+//! | 7 | The walk is full, and O is the walker itself: its path goes round, and is to be confirmed. | W O | [`after`] |
+//! | 8 | The walk is full, and O is another task of its path: the walk ends, or the path is cut where O's key is old. | W O | [`after`] |
+//! | 9 | The walk is short, and O's key isn't old: the walk ends. | W O | [`after`] |
+//! | 10 | Else the walk stands at O. | W O | [`after`] |
 //!
-//! Whether all links of a path stand at once is asked by [`link()`] of each.
+//! A path that is to be confirmed is looked at as a whole: whether each of its links stands is asked by
+//! [`link()`].
 #![tactic(auto)]
 
 mod links;

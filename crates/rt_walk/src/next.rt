@@ -1,4 +1,4 @@
-ghost use Rattle.std.specs.Prelude.{◌≡◌, ◌≢◌, ℕ, ◌≤◌, length, Option, Some, true, nat_lt};
+ghost use Rattle.std.specs.Prelude.{◌≡◌, ℕ, ◌≤◌, length, Option, Some, true, nat_lt};
 ghost use Rattle.rt_base.specs.declared.id.TaskId.{TaskId};
 ghost use Rattle.rt_base.specs.declared.reply.Reply.{Reply};
 ghost use Rattle.rt_model.specs.Parts.{TaskPart};
@@ -12,25 +12,24 @@ use rt_base::{Path, TaskId};
 pub enum Next {
     /// It ends.
     End,
-    /// A full walk has come back to its own task, and looks at its path again. No walk does so yet.
+    /// A full walk has come back to its own task: whether its path is a cycle is to be confirmed.
     Confirm,
     /// It stands at this task, and so many links of its path stay.
     To { task: TaskId, keep: usize },
 }
 
 /// How a walk goes on from a link: the part of `rt_mutex_adjust_prio_chain` that chooses the next task,
-/// or stops. A full walk's path ends with the link. `next` is the owner of the link's lock, whether that
-/// task is blocked, and whether the key with which it is queued is its effective priority. Whose walk it
-/// is makes no difference yet.
-pub fn after(_walker: TaskId, full: bool, path: &Path, next: Option<(TaskId, bool, bool)>) -> Next
-    ensures told { result ≡ next_after full path.now next }
+/// or stops. `walker` is whose walk it is. A full walk's path ends with the link. `next` is the owner of
+/// the link's lock, whether that task is blocked, and whether the key with which it is queued is its
+/// effective priority.
+pub fn after(walker: TaskId, full: bool, path: &Path, next: Option<(TaskId, bool, bool)>) -> Next
+    ensures told { result ≡ next_after walker full path.now next }
     ensures goes_on { (answer : Reply) (owner : Option TaskId) (task : TaskPart) → next ≡ found owner task
-        → phase_of (route_of full path.now answer) result ≡ goes_on (route_of full path.now answer) owner task }
+        → phase_of (route_of full path.now answer) result ≡ goes_on walker (route_of full path.now answer) owner task }
     ensures keep { (task : TaskId) (keep : ℕ) → result ≡ Next.To task keep → keep ≤ length path.now }
-    ensures never_confirms { result ≢ Next.Confirm }
 {
     match next {
-        Some((task, true, right)) if full => along(path, task, right),
+        Some((task, true, right)) if full => along(walker, path, task, right),
         Some((task, true, false)) => Next::To {
             task,
             keep: path.len(),
@@ -40,9 +39,12 @@ pub fn after(_walker: TaskId, full: bool, path: &Path, next: Option<(TaskId, boo
 }
 
 // How a full walk goes on at a task that is blocked.
-fn along(path: &Path, task: TaskId, right: bool) -> Next
-    ensures { result ≡ next_after true path.now (Some (task, true, right)) }
+fn along(walker: TaskId, path: &Path, task: TaskId, right: bool) -> Next
+    ensures { result ≡ next_after walker true path.now (Some (task, true, right)) }
 {
+    if task == walker {
+        return Next::Confirm;
+    }
     let keep = links_before(path, task);
     if right && keep < path.len() {
         Next::End

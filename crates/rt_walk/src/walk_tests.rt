@@ -110,7 +110,13 @@ fn a_walk_goes_on_or_ends(rt: HostRuntime) {
         (false, Some((O, true, true)), Next::End),
         (true, Some((O, true, false)), all),
         (false, Some((O, true, false)), all),
-        // A task of the path.
+        // The walker itself: a full walk's path is to be confirmed, whatever the key.
+        (true, Some((U, false, true)), Next::End),
+        (true, Some((U, true, true)), Next::Confirm),
+        (true, Some((U, true, false)), Next::Confirm),
+        (false, Some((U, true, true)), Next::End),
+        (false, Some((U, true, false)), Next::To { task: U, keep: 2 }),
+        // Another task of the path.
         (true, Some((V, true, true)), Next::End),
         (true, Some((V, true, false)), first),
     ] {

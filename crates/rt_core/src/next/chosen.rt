@@ -1,4 +1,4 @@
-ghost use Rattle.std.specs.Prelude.{◌≡◌};
+ghost use Rattle.std.specs.Prelude.{◌≡◌, Some};
 
 use rt_base::{LockId, Path, Prio, Reply, TaskId};
 use rt_model::{Event, EventKind};
@@ -45,5 +45,16 @@ pub fn event_of(chosen: Option<Chosen>) -> Option<Event>
         path: Path::empty(),
         boost: c.boost,
         reply: c.reply,
+    })
+}
+
+/// An event that was chosen by a look at a whole path, handed out with that path.
+pub fn along_path(chosen: Chosen, path: &Path) -> Option<Event>
+    ensures { result ≡ Some (record chosen { path = path.now }) }
+{
+    let event = event_of(Some(chosen))?;
+    Some(Event {
+        path: *path,
+        ..event
     })
 }

@@ -6,7 +6,6 @@ use Rattle.rt_base.specs.declared.id.LockId.{LockId}
 use Rattle.rt_base.specs.declared.id.TaskId.{TaskId}
 use Rattle.rt_base.specs.declared.kind.Kind.{Kind}
 use Rattle.rt_base.specs.declared.reply.Reply.TheVariants.{Got}
-use Rattle.rt_base.specs.declared.state.TaskState.TheVariants.{Running}
 use Rattle.rt_model.specs.declared.event.Event.{Event}
 use Rattle.rt_model.specs.declared.obj.Obj.TheVariants as objects
 use Rattle.rt_model.specs.declared.phase.Phase.TheVariants as phases
@@ -15,8 +14,9 @@ use Rattle.rt_model.specs.Rows.{can_take}
 use Rattle.rt_model.specs.State.{State, Shared, lock_in, task_in, owner_part, task_part, thread_part}
 use Rattle.rt_model.specs.steps.Thread.{with_hold, holds_after}
 use Rattle.rt_model.specs.Footprint.{touches}
+use Rattle.rt_model.specs.events.Wait.{is_awake}
 use Rattle.rt_model.specs.events.Acquire.{fast_event, mark_event, is_free, acquire_event, take_event, take_or, busy_event, try_event}
-use Rattle.rt_model.proofs.Calling.{IsIn}
+use Rattle.rt_model.proofs.Calling.{IsIn, WaitsFor, waits-holds, Asks, asks-lock}
 use Rattle.rt_model.proofs.Touching.{touches-lock, touches-own}
 use Rattle.rt_model.proofs.Alike.{Alike}
 
@@ -24,7 +24,7 @@ use Rattle.rt_model.proofs.Alike.{Alike}
 
 -- the calls that acquire a lock: one that waits for it, which doesn't hold it, and one that tries
 pub data AcquiresIn (s : State) (t : TaskId) (l : LockId) : Type 0 where
-  by_lock : IsIn s t phases.Start (calls.Lock l) → (hold_of (thread_part s t) l).owns ≡ false → AcquiresIn s t l
+  by_lock : Asks s t phases.Start l → (hold_of (thread_part s t) l).owns ≡ false → AcquiresIn s t l
   by_trylock : IsIn s t phases.Start (calls.TryLock l) → AcquiresIn s t l
 
 -- the task gets a free lock at once
@@ -38,14 +38,14 @@ pub record IsFast (s : State) (t : TaskId) (l : LockId) (e : Event) : Type 0 whe
 
 -- it sets the bit
 pub record IsMark (s : State) (t : TaskId) (l : LockId) (e : Event) : Type 0 where
-  pub at : IsIn s t phases.Start (calls.Lock l)
+  pub at : Asks s t phases.Start l
   pub unheld : (hold_of (thread_part s t) l).owns ≡ false
   pub event : e ≡ mark_event t l
 
--- a task takes a lock with the bit set, or queued and woken, or by a call that tries
+-- a task takes a lock with the bit set, or queued and awake, or by a call that tries
 pub data TakesIn (s : State) (t : TaskId) (l : LockId) : Type 0 where
-  from_slow : IsIn s t phases.Slow (calls.Lock l) → TakesIn s t l
-  from_wait : IsIn s t phases.Wait (calls.Lock l) → (task_part s t).state ≡ Running → TakesIn s t l
+  from_slow : Asks s t phases.Slow l → TakesIn s t l
+  from_wait : Asks s t phases.Wait l → is_awake (call_of (thread_part s t)) (task_part s t) ≡ true → TakesIn s t l
   from_trylock : IsIn s t phases.Start (calls.TryLock l) → TakesIn s t l
 
 -- it takes the lock
@@ -68,11 +68,11 @@ pub data IsAcquire (s : State) (t : TaskId) (l : LockId) (e : Event) : Type 0 wh
   is_take : IsTake s t l e → IsAcquire s t l e
   is_busy : IsBusy s t l e → IsAcquire s t l e
 
-pub acquired : (s : State) (t : TaskId) (l : LockId) (e : Event) → IsIn s t phases.Start (calls.Lock l) → (hold_of (thread_part s t) l).owns ≡ false → acquire_event t l (owner_part s l) ≡ e → IsAcquire s t l e
+pub acquired : (s : State) (t : TaskId) (l : LockId) (e : Event) → Asks s t phases.Start l → (hold_of (thread_part s t) l).owns ≡ false → acquire_event t l (owner_part s l) ≡ e → IsAcquire s t l e
 acquired s t l e at unheld is = by_owner (owner_part s l).owner (owner_part s l).bit refl refl is
   where
     by_owner : (owner : Option TaskId) (bit : Bool) → (owner_part s l).owner ≡ owner → (owner_part s l).bit ≡ bit → cond (is_none owner && not bit) (fast_event t l) (mark_event t l) ≡ e → IsAcquire s t l e
-    by_owner None false none clear is = is_fast (record { how = by_lock at unheld; task = at.task; lock = at.served; owner = none; bit = clear; event = sym is })
+    by_owner None false none clear is = is_fast (record { how = by_lock at unheld; task = at.at.task; lock = asks-lock s t phases.Start l at; owner = none; bit = clear; event = sym is })
     by_owner None true none set is = is_mark (record { at = at; unheld = unheld; event = sym is })
     by_owner (Some o) bit some b is = is_mark (record { at = at; unheld = unheld; event = sym is })
 
@@ -109,7 +109,7 @@ tried s t l e at is = by_owner (owner_part s l).owner (owner_part s l).bit refl 
 
 -- it is one that waits for this lock, or that tries
 abbrev pub IsAcquireOf : LockId → Call → Type 0
-IsAcquireOf l call = (call ≡ calls.Lock l) ⊎ (call ≡ calls.TryLock l)
+IsAcquireOf l call = WaitsFor call l ⊎ (call ≡ calls.TryLock l)
 
 -- the task is at such a call
 pub record IsAcquiring (s : State) (t : TaskId) (l : LockId) : Type 0 where
@@ -118,12 +118,12 @@ pub record IsAcquiring (s : State) (t : TaskId) (l : LockId) : Type 0 where
   pub acquires : IsAcquireOf l call
 
 pub fast-acquiring : (s : State) (t : TaskId) (l : LockId) → AcquiresIn s t l → IsAcquiring s t l
-fast-acquiring s t l (by_lock at unheld) = record { call = calls.Lock l; calling = at.calling; acquires = inl refl }
+fast-acquiring s t l (by_lock asks unheld) = record { call = asks.call; calling = asks.at.calling; acquires = inl asks.waits_for }
 fast-acquiring s t l (by_trylock at) = record { call = calls.TryLock l; calling = at.calling; acquires = inr refl }
 
 pub take-acquiring : (s : State) (t : TaskId) (l : LockId) → TakesIn s t l → IsAcquiring s t l
-take-acquiring s t l (from_slow at) = record { call = calls.Lock l; calling = at.calling; acquires = inl refl }
-take-acquiring s t l (from_wait at running) = record { call = calls.Lock l; calling = at.calling; acquires = inl refl }
+take-acquiring s t l (from_slow asks) = record { call = asks.call; calling = asks.at.calling; acquires = inl asks.waits_for }
+take-acquiring s t l (from_wait asks awake) = record { call = asks.call; calling = asks.at.calling; acquires = inl asks.waits_for }
 take-acquiring s t l (from_trylock at) = record { call = calls.TryLock l; calling = at.calling; acquires = inr refl }
 
 -- with the answer got it holds the lock
@@ -131,7 +131,7 @@ pub got-holds : (s : State) (t : TaskId) (l : LockId) → IsAcquiring s t l → 
 got-holds s t l is = ap (λ (c : Option Call). holds_after (thread_part s t) c Got) is.calling ∙ by_call is.acquires
   where
     by_call : IsAcquireOf l is.call → holds_after (thread_part s t) (Some is.call) Got ≡ with_hold (thread_part s t) l true
-    by_call (inl same) = ap (λ (c : Call). holds_after (thread_part s t) (Some c) Got) same
+    by_call (inl waits_for) = waits-holds (λ c. holds_after (thread_part s t) (Some c) Got ≡ with_hold (thread_part s t) l true) is.call l waits_for refl refl
     by_call (inr same) = ap (λ (c : Call). holds_after (thread_part s t) (Some c) Got) same
 
 -- ---- what the choice reads

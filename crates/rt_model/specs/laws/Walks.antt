@@ -14,28 +14,28 @@ BeginsWith t lock [] = ⊥
 BeginsWith t lock (link ∷ path) = (link.0 ≡ t.0) × (lock ≡ Some (record { 0 = link.1 }))
 
 -- a full walk of a task that waits for this lock: its path is empty with the cursor on the walker, or begins with the walker and
--- its lock; the tasks of the path are there and differ, and the cursor isn't one of them
-pub record IsFullWalk (tasks : ℕ) (t : TaskId) (lock : Option LockId) (cursor : TaskId) (path : List (ℕ × ℕ)) : Type 0 where
+-- its lock; the tasks and the locks of the path are there, the tasks differ, and the cursor isn't one of them
+pub record IsFullWalk (tasks locks : ℕ) (t : TaskId) (lock : Option LockId) (cursor : TaskId) (path : List (ℕ × ℕ)) : Type 0 where
   pub begins : ((path ≡ []) × (cursor ≡ t)) ⊎ BeginsWith t lock path
-  pub there : All (λ (link : ℕ × ℕ). link.0 < tasks) path
+  pub there : All (λ (link : ℕ × ℕ). (link.0 < tasks) × (link.1 < locks)) path
   pub differ : AllPairs (λ (link other : ℕ × ℕ). link.0 ≢ other.0) path
   pub ahead : All (λ (link : ℕ × ℕ). link.0 ≢ cursor.0) path
 
 -- a path that is to be confirmed, of a task that waits for this lock: it begins with the task and its lock, and has two tasks or
--- more, which are there and differ
-pub record IsToConfirm (tasks : ℕ) (t : TaskId) (lock : Option LockId) (path : List (ℕ × ℕ)) : Type 0 where
+-- more, which are there with their locks, and differ
+pub record IsToConfirm (tasks locks : ℕ) (t : TaskId) (lock : Option LockId) (path : List (ℕ × ℕ)) : Type 0 where
   pub begins : BeginsWith t lock path
   pub many : 2 ≤ length path
-  pub there : All (λ (link : ℕ × ℕ). link.0 < tasks) path
+  pub there : All (λ (link : ℕ × ℕ). (link.0 < tasks) × (link.1 < locks)) path
   pub differ : AllPairs (λ (link other : ℕ × ℕ). link.0 ≢ other.0) path
 
 -- a walk's cursor is there, and a full walk has such a path, also where it is to be confirmed
-abbrev pub IsWalkOf : ℕ → TaskId → Option LockId → Phase → Type 0
-IsWalkOf tasks t lock (Walk cursor (Full path)) = (cursor.0 < tasks) × IsFullWalk tasks t lock cursor path
-IsWalkOf tasks t lock (Walk cursor (Short answer)) = cursor.0 < tasks
-IsWalkOf tasks t lock (Confirm path) = IsToConfirm tasks t lock path
-IsWalkOf tasks t lock _ = Unit {0}
+abbrev pub IsWalkOf : ℕ → ℕ → TaskId → Option LockId → Phase → Type 0
+IsWalkOf tasks locks t lock (Walk cursor (Full path)) = (cursor.0 < tasks) × IsFullWalk tasks locks t lock cursor path
+IsWalkOf tasks locks t lock (Walk cursor (Short answer)) = cursor.0 < tasks
+IsWalkOf tasks locks t lock (Confirm path) = IsToConfirm tasks locks t lock path
+IsWalkOf tasks locks t lock _ = Unit {0}
 
 -- so each walk
 abbrev pub WalksLaw : State → Type 0
-WalksLaw s = (t : TaskId) → IsWalkOf (length s.threads) t (present_lock (thread_part s t)) (thread_part s t).phase
+WalksLaw s = (t : TaskId) → IsWalkOf (length s.threads) (length s.locks) t (present_lock (thread_part s t)) (thread_part s t).phase

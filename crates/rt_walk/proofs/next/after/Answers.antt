@@ -7,11 +7,11 @@ use Rattle.rt_walk.proofs.next.after.Goals as goal
 pub returns-in-Some-default-true-default-clause-goes_on :
     goal.returns-in-Some-default-true-default-clause-goes_on
 returns-in-Some-default-true-default-clause-goes_on c = λ answer owner task is.
-    let chosen : c.along.result ≡ next_after true c.args.path.now c.args.next = search rules in
-    rw c.if-full.true (ap (phase_of (Full c.args.path.now)) (chosen ∙ ap (next_after true c.args.path.now) is) ∙ told_full c.args.path.now owner task)
+    let chosen : c.along.result ≡ next_after c.args.walker true c.args.path.now c.args.next = search rules in
+    rw c.if-full.true (ap (phase_of (Full c.args.path.now)) (chosen ∙ ap (next_after c.args.walker true c.args.path.now) is) ∙ told_full c.args.walker c.args.path.now owner task)
 
 pub returns-in-Some-default-true-default-clause-keep :
     goal.returns-in-Some-default-true-default-clause-keep
 returns-in-Some-default-true-default-clause-keep c = λ task keep is.
-    let chosen : c.along.result ≡ next_after true c.args.path.now c.args.next = search rules in
-    cut_within c.args.path.now c.args.next task keep (sym chosen ∙ is)
+    let chosen : c.along.result ≡ next_after c.args.walker true c.args.path.now c.args.next = search rules in
+    cut_within c.args.walker c.args.path.now c.args.next task keep (sym chosen ∙ is)

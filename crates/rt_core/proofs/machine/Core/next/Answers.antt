@@ -19,7 +19,7 @@ use Rattle.rt_core.specs.Walking.{FindsCursor}
 use Rattle.rt_core.proofs.Choosing.{served-here, cursor-here}
 use Rattle.rt_core.proofs.Boosts.{boost-within}
 use Rattle.rt_core.proofs.EntryWellFormed.{well_formed}
-use Rattle.rt_core.proofs.machine.Core.next.Goals.{After-event_of}
+use Rattle.rt_core.proofs.machine.Core.next.Goals.{After-next_of}
 use Rattle.rt_core.proofs.machine.Core.next.Goals as goal
 
 own_task : (s : State) (t : TaskId) (e : Option Event) → e ≡ next_event s t → IfSome e (λ (e : Event). e.task ≡ t)
@@ -52,23 +52,23 @@ next_of-requires-clause-cursor c =
     subst (λ (th : ThreadPart). FindsCursor c.self.inside.shared th.phase) at (cursor-here s c.self.inside.made c.args.t c.self.invariant.0)
 
 -- the event that was chosen
-event : (c : After-event_of) → c.event_of.result ≡ next_event c.args.self.now.state c.args.t
-event c = c.event_of.ensures ∙ (c.next_of.ensures ∙ (λ i. next_of (shared (c.self.view_is i).state) c.args.t (c.thread.ensures.part i)))
+event : (c : After-next_of) → c.next_of.result ≡ next_event c.args.self.now.state c.args.t
+event c = c.next_of.ensures ∙ (λ i. next_of (shared (c.self.view_is i).state) c.args.t (c.thread.ensures.part i))
 
 pub returns-clause-event : goal.returns-clause-event
-returns-clause-event c = event (goal.at.returns-clause-event c).After-event_of
+returns-clause-event c = event (goal.at.returns-clause-event c).After-next_of
 
 pub returns-clause-task : goal.returns-clause-task
-returns-clause-task c = own_task c.args.self.now.state c.args.t c.event_of.result (event (goal.at.returns-clause-task c).After-event_of)
+returns-clause-task c = own_task c.args.self.now.state c.args.t c.next_of.result (event (goal.at.returns-clause-task c).After-next_of)
 
 pub returns-clause-within : goal.returns-clause-within
-returns-clause-within c = names_within c.args.self.now.state c.args.self.now.made c.args.t c.event_of.result c.thread.ensures.lawful (event (goal.at.returns-clause-within c).After-event_of)
+returns-clause-within c = names_within c.args.self.now.state c.args.self.now.made c.args.t c.next_of.result c.thread.ensures.lawful (event (goal.at.returns-clause-within c).After-next_of)
 
 pub returns-clause-told : goal.returns-clause-told
-returns-clause-told c = tells c.args.self.now.state c.args.self.now.made c.args.t c.event_of.result c.thread.ensures.lawful (event (goal.at.returns-clause-told c).After-event_of)
+returns-clause-told c = tells c.args.self.now.state c.args.self.now.made c.args.t c.next_of.result c.thread.ensures.lawful (event (goal.at.returns-clause-told c).After-next_of)
 
 pub returns-clause-local : goal.returns-clause-local
-returns-clause-local c = stays_next c.args.self.now.state c.args.t c.event_of.result (event (goal.at.returns-clause-local c).After-event_of)
+returns-clause-local c = stays_next c.args.self.now.state c.args.t c.next_of.result (event (goal.at.returns-clause-local c).After-next_of)
 
 pub returns-clause-none : goal.returns-clause-none
-returns-clause-none c = λ is s thread task. none c.args.self.now.state s c.args.t (sym (event (goal.at.returns-clause-none c).After-event_of) ∙ is) thread task
+returns-clause-none c = λ is s thread task. none c.args.self.now.state s c.args.t (sym (event (goal.at.returns-clause-none c).After-next_of) ∙ is) thread task

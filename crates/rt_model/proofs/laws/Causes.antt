@@ -51,6 +51,7 @@ use Rattle.rt_model.proofs.events.Release.{is_free, is_give}
 use Rattle.rt_model.proofs.events.Walk.{WalksIn, by_full, by_short, is_walk, is_walkend, is_restart, is_cycle, IsWalk, IsCycleEvent}
 use Rattle.rt_model.proofs.Prefixes.{run-prefix, run-lawful, run-next, lawful-there, next-there, next-task}
 
+-- two values in a `Some`
 some-same : {X : Type 0} {x y : X} → Some x ≡ Some y → x ≡ y
 some-same is = cc
 

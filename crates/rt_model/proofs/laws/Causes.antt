@@ -4,8 +4,6 @@ use Rattle.std.specs.Prelude.{nat_eq, nat_lt, option_map}
 use Rattle.std.proofs.lemmas.Bool.{cond_both}
 use Rattle.std.proofs.lemmas.List.Elements.{All-nil, All-cons, All-head, All-tail}
 use Rattle.std.proofs.lemmas.List.{append-nil, append_assoc}
-use Rattle.rt_model.proofs.Numbers.{other_number, at_each_task}
-use Rattle.rt_base.specs.Kind.{spins}
 use Rattle.rt_base.specs.declared.call.Call.{Call}
 use Rattle.rt_base.specs.declared.call.Call.TheVariants as calls
 use Rattle.rt_base.specs.declared.id.LockId.{LockId}
@@ -21,11 +19,10 @@ use Rattle.rt_model.specs.declared.phase.Phase.TheVariants as phases
 use Rattle.rt_model.specs.declared.phase.Route.{Route}
 use Rattle.rt_model.specs.declared.phase.Route.TheVariants.{Full, Short}
 use Rattle.rt_model.specs.declared.row.Row.{Row}
-use Rattle.rt_model.specs.Parts.{TaskPart, ThreadPart, kind_of, kind_named, hold_of}
-use Rattle.rt_model.specs.Rows.{top_key, row_of}
-use Rattle.rt_model.specs.steps.Lock.{left_by}
+use Rattle.rt_model.specs.Parts.{TaskPart, ThreadPart, hold_of}
+use Rattle.rt_model.specs.Rows.{row_of}
 use Rattle.rt_model.specs.State.{State, shared, lock_at, task_at, owner_part, task_part, thread_part}
-use Rattle.rt_model.specs.steps.Chain.{has_old_key, path_before, followed, goes_on, phase_of_walk, answer_of_walk}
+use Rattle.rt_model.specs.steps.Chain.{followed, goes_on, phase_of_walk, answer_of_walk}
 use Rattle.rt_model.specs.Path.{first_lock, first_owner}
 use Rattle.rt_model.specs.events.Own.{unless_nested, if_held, if_not_held}
 use Rattle.rt_model.specs.events.Wait.{phase_after_wait, leave_event}
@@ -40,12 +37,12 @@ use Rattle.rt_model.specs.Run.{after, IsRun}
 use Rattle.rt_model.specs.laws.Causes.{IsCause}
 use Rattle.rt_model.specs.laws.Lawful.{IsLawful}
 use Rattle.rt_model.specs.laws.Rows.{key_at}
-use Rattle.rt_model.specs.laws.Shape.{IsShaped}
+use Rattle.rt_model.proofs.Numbers.{other_number, at_each_task}
+use Rattle.rt_model.proofs.Leaves.{IsLeft, leave-left, cycle-left, left-own_blocked}
+use Rattle.rt_model.proofs.Routes.{full-holds, short-holds}
 use Rattle.rt_model.proofs.NextEvents.{IsNext, by_own, by_acquire, by_wait, by_release, by_walk, by_confirm, by_signal, by_setprio}
-use Rattle.rt_model.proofs.CellStepLemmas.{leave_queue-blocked, interrupted-blocked, with_top-blocked}
 use Rattle.rt_model.proofs.Lawful.{IsLawful-next}
-use Rattle.rt_model.proofs.Within.{task_room}
-use Rattle.rt_model.proofs.PartsAfter.{own-made, thread-own, thread-other}
+use Rattle.rt_model.proofs.PartsAfter.{thread-own, thread-other}
 use Rattle.rt_model.proofs.Waiters.{walk-phase}
 use Rattle.rt_model.proofs.events.Own.{IsOwn}
 use Rattle.rt_model.proofs.events.Acquire.{is_fast, is_mark, is_take, is_busy}
@@ -54,6 +51,7 @@ use Rattle.rt_model.proofs.events.Release.{is_free, is_give}
 use Rattle.rt_model.proofs.events.Walk.{WalksIn, by_full, by_short, is_walk, is_walkend, is_restart, is_cycle, IsWalk, IsCycleEvent}
 use Rattle.rt_model.proofs.Prefixes.{run-prefix, run-lawful, run-next, lawful-there, next-there, next-task}
 
+-- two values in a `Some`
 some-same : {X : Type 0} {x y : X} → Some x ≡ Some y → x ≡ y
 some-same is = cc
 
@@ -67,8 +65,8 @@ of_wait _ = false
 
 -- an event that ends a task's wait, before this answer
 pub data EndsWait (s : State) (t : TaskId) (e : Event) (answer : Reply) : Type 0 where
-  by_leave : (l : LockId) → answer ≡ replies.Interrupted → IsLeave s t l e → EndsWait s t e answer
-  by_cycle : (l : LockId) (path : List (ℕ × ℕ)) → answer ≡ replies.Deadlock → IsCycleEvent s t l path e → EndsWait s t e answer
+  ended_leave : (l : LockId) → answer ≡ replies.Interrupted → IsLeave s t l e → EndsWait s t e answer
+  ended_cycle : (l : LockId) (path : List (ℕ × ℕ)) → answer ≡ replies.Deadlock → IsCycleEvent s t l path e → EndsWait s t e answer
 
 -- it is of this kind
 abbrev pub ended_by : Reply → EventKind
@@ -76,50 +74,34 @@ ended_by replies.Interrupted = kinds.Leave
 ended_by answer = kinds.Cycle
 
 ends-kind : (s : State) (t : TaskId) (e : Event) (answer : Reply) → EndsWait s t e answer → e.kind ≡ ended_by answer
-ends-kind s t e answer (by_leave l its is) = ap (λ (x : Event). x.kind) is.event ∙ ap ended_by (sym its)
-ends-kind s t e answer (by_cycle l path its is) = ap (λ (x : Event). x.kind) is.event ∙ ap ended_by (sym its)
+ends-kind s t e answer (ended_leave l its is) = ap (λ (x : Event). x.kind) is.event ∙ ap ended_by (sym its)
+ends-kind s t e answer (ended_cycle l path its is) = ap (λ (x : Event). x.kind) is.event ∙ ap ended_by (sym its)
 
--- its task isn't blocked then, and so has no row
-ends-unblocked : (s : State) (t : TaskId) (e : Event) (answer : Reply) → IsShaped s → EndsWait s t e answer → (task_part (state_after s e) t).blocked ≡ None
-ends-unblocked s t e answer shaped (by_leave l its is) =
-    let rows = (left_by t (owner_part s l)).rows in
-    own-made (λ v task. task.blocked ≡ None) s e _ t t is.event refl (task_room s t shaped is.at.task)
-    (record { owner = λ task was. with_top-blocked (Some l) (top_key rows) task ∙ was; other = λ task was. was; woken = λ task was. was })
-    (interrupted-blocked (spins (kind_of (thread_part s t) l)) (task_part s t)) (λ ne. absurd (other_number t.0 t.0 ne refl))
-ends-unblocked s t e answer shaped (by_cycle l path its is) =
-    let rows = (left_by t (lock_at (shared s) (first_lock path))).rows in
-    own-made (λ v task. task.blocked ≡ None) s e _ t t is.event refl (task_room s t shaped is.at.at.task)
-    (record { owner = λ task was. with_top-blocked (first_lock path) (top_key rows) task ∙ was; other = λ task was. was; woken = λ task was. was })
-    (leave_queue-blocked (spins (kind_named (thread_part s t) (first_lock path))) (task_part s t)) (λ ne. absurd (other_number t.0 t.0 ne refl))
+-- it leaves the queue, and so has no row then
+ends-left : (s : State) (made : ℕ) (t : TaskId) (e : Event) (answer : Reply) → IsLawful s made → EndsWait s t e answer → (l : LockId) × IsLeft s t l e
+ends-left s made t e answer lawful (ended_leave l its is) = (l, leave-left s t l e is)
+ends-left s made t e answer lawful (ended_cycle l path its is) = (l, cycle-left s made t l path e lawful is)
 
 no_row : (row : Option Row) → option_map (λ (r : Row). r.key) row ≡ None → row ≡ None
 no_row None is = refl
 no_row (Some row) is = cc
 
-pub ends-out : (s : State) (made : ℕ) (t : TaskId) (e : Event) (answer : Reply) → IsLawful s made → IsNext s t e → EndsWait s t e answer → (l : LockId) → row_of t (owner_part (state_after s e) l).rows ≡ None
+pub ends-out : (s : State) (made : ℕ) (t : TaskId) (e : Event) (answer : Reply) → IsLawful s made → IsNext s t e → EndsWait s t e answer
+    → (l : LockId) → row_of t (owner_part (state_after s e) l).rows ≡ None
 ends-out s made t e answer lawful next ended l =
-    let after = IsLawful-next s made t e lawful next in
-    no_row (row_of t (owner_part (state_after s e) l).rows) (after.rows.rows l t ∙ ap (λ (b : Option (LockId × ℕ)). key_at b l) (ends-unblocked s t e answer lawful.shape ended))
+    let left = ends-left s made t e answer lawful ended in
+    let rows = (IsLawful-next s made t e lawful next).rows.rows l t in
+    no_row (row_of t (owner_part (state_after s e) l).rows) (rows ∙ ap (λ (b : Option (LockId × ℕ)). key_at b l) (left-own_blocked s made t left.0 e lawful left.1))
 
 -- a short walk goes on before its answer
 short-answer : (t : TaskId) (a b : Reply) (owner : Option TaskId) (task : TaskPart) (u : TaskId) → phase_of_walk (Short a) (goes_on t (Short a) owner task) ≡ phases.Walk u (Short b) → a ≡ b
-short-answer t a b None task u is = cc
-short-answer t a b (Some o) task u is = by_test (has_old_key task) is
-  where
-    by_test : (c : Bool) → phase_of_walk (Short a) (cond c (Some (phases.Walk o (Short a))) None) ≡ phases.Walk u (Short b) → a ≡ b
-    by_test true is = cc
-    by_test false is = cc
+short-answer t a b owner task u = short-holds (λ next. phase_of_walk (Short a) next ≡ phases.Walk u (Short b) → a ≡ b) t a owner task (λ is. cc) (λ o some old is. cc)
 
 -- a full walk never goes on as a short one
-full-never : (t : TaskId) (path rest : List (ℕ × ℕ)) (b : Reply) (owner : Option TaskId) (task : TaskPart) (u : TaskId) → phase_of_walk (Full path) (goes_on t (Full rest) owner task) ≡ phases.Walk u (Short b) → ⊥
-full-never t path rest b None task u is = cc
-full-never t path rest b (Some o) task u is = by_tests _ _ _ is
-  where
-    by_tests : (free itself ends : Bool) → phase_of_walk (Full path) (cond free None (cond itself (Some (phases.Confirm rest)) (cond ends None (Some (phases.Walk o (Full (path_before o rest))))))) ≡ phases.Walk u (Short b) → ⊥
-    by_tests true itself ends is = cc
-    by_tests false true ends is = cc
-    by_tests false false true is = cc
-    by_tests false false false is = cc
+full-never : (t : TaskId) (path rest : List (ℕ × ℕ)) (b : Reply) (owner : Option TaskId) (task : TaskPart) (u : TaskId)
+    → phase_of_walk (Full path) (goes_on t (Full rest) owner task) ≡ phases.Walk u (Short b) → ⊥
+full-never t path rest b owner task u =
+    full-holds (λ next. phase_of_walk (Full path) next ≡ phases.Walk u (Short b) → ⊥) t rest owner task (λ is. cc) (λ some blocked is. cc) (λ o some stands is. cc)
 
 -- a thread that walks after an event has no answer by it
 unanswered : (thread : ThreadPart) (reply : Option Reply) (u : TaskId) (route : Route) → (answered_with thread reply).phase ≡ phases.Walk u route → (reply ≡ None) × (thread.phase ≡ phases.Walk u route)
@@ -139,7 +121,8 @@ record Walked (s : State) (e x : Event) (u : TaskId) (route : Route) : Type 0 wh
   reply : x.reply ≡ None
   left : (thread_left s x).phase ≡ phases.Walk u route
 
-walked : (s : State) (t : TaskId) (e x : Event) (u : TaskId) (route : Route) → e ≡ x → x.task ≡ t → t.0 < length s.threads → (thread_part (state_after s e) t).phase ≡ phases.Walk u route → Walked s e x u route
+walked : (s : State) (t : TaskId) (e x : Event) (u : TaskId) (route : Route) → e ≡ x → x.task ≡ t → t.0 < length s.threads
+    → (thread_part (state_after s e) t).phase ≡ phases.Walk u route → Walked s e x u route
 walked s t e x u route is its lt walks =
     let there : x.task.0 < length s.threads = subst (λ (v : TaskId). v.0 < length s.threads) (sym its) lt in
     let own = thread-own s e x is there in
@@ -164,7 +147,8 @@ end-never : (cursor u : TaskId) (b : Reply) (route : Route) → phase_after_end 
 end-never cursor u b (Full path) is = cc
 end-never cursor u b (Short a) is = cc
 
-module _ (s : State) (t : TaskId) (e : Event) (answer : Reply) (u : TaskId) (of : of_wait answer ≡ true) (lt : t.0 < length s.threads) (walks : (thread_part (state_after s e) t).phase ≡ phases.Walk u (Short answer)) where
+module _ (s : State) (t : TaskId) (e : Event) (answer : Reply) (u : TaskId) (of : of_wait answer ≡ true) (lt : t.0 < length s.threads)
+    (walks : (thread_part (state_after s e) t).phase ≡ phases.Walk u (Short answer)) where
   -- an event that leaves no such walk
   no_walk : (x : Event) → e ≡ x → x.task ≡ t → ((thread_left s x).phase ≡ phases.Walk u (Short answer) → ⊥) → Comes s t e answer
   no_walk x is its never = absurd (never (walked s t e x u (Short answer) is its lt walks).left)
@@ -173,7 +157,8 @@ module _ (s : State) (t : TaskId) (e : Event) (answer : Reply) (u : TaskId) (of 
   answered x is its never = absurd (never (walked s t e x u (Short answer) is its lt walks).reply)
 
   -- one that begins a short walk before an answer
-  starts : (x : Event) (a : Reply) (owner : Option TaskId) (task : TaskPart) → e ≡ x → x.task ≡ t → (thread_left s x).phase ≡ phase_of_walk (Short a) (goes_on t (Short a) owner task) → (a ≡ answer) × (e.reply ≡ None)
+  starts : (x : Event) (a : Reply) (owner : Option TaskId) (task : TaskPart) → e ≡ x → x.task ≡ t
+      → (thread_left s x).phase ≡ phase_of_walk (Short a) (goes_on t (Short a) owner task) → (a ≡ answer) × (e.reply ≡ None)
   starts x a owner task is its leaves =
       let both = walked s t e x u (Short answer) is its lt walks in
       (short-answer t a answer owner task u (sym leaves ∙ both.left), both.none)
@@ -191,17 +176,16 @@ module _ (s : State) (t : TaskId) (e : Event) (answer : Reply) (u : TaskId) (of 
       both : Walked s e x u (Short answer)
       both = walked s t e x u (Short answer) is.event refl lt walks
 
-      left : TaskPart
-      left = (around_left s x).owner
+      owner : TaskPart
+      owner = (around_left s x).owner
 
-      onward : WalksIn s t route cursor → phase_of_walk route (goes_on t (followed cursor l route) (owner_part s l).owner left) ≡ phases.Walk u (Short answer)
-      onward how = ap (λ (p : Phase). phase_after_link t (Some l) (owner_part s l).owner left p) (sym (walk-phase s t route cursor how)) ∙ both.left
+      onward : (r : Route) → route ≡ r → phase_of_walk r (goes_on t (followed cursor l r) (owner_part s l).owner owner) ≡ phases.Walk u (Short answer)
+      onward r same = ap (λ (p : Phase). phase_after_link t (Some l) (owner_part s l).owner owner p) (sym (walk-phase s t route cursor is.how ∙ ap (phases.Walk cursor) same)) ∙ both.left
 
       by_route : WalksIn s t route cursor → Comes s t e answer
-      by_route (by_full path m same asks) =
-          absurd (full-never t path _ answer _ left u (subst (λ (r : Route). phase_of_walk r (goes_on t (followed cursor l r) (owner_part s l).owner left) ≡ phases.Walk u (Short answer)) same (onward (by_full path m same asks))))
+      by_route (by_full path m same asks) = absurd (full-never t path (path ++ (cursor.0, l.0) ∷ []) answer (owner_part s l).owner owner u (onward (Full path) same))
       by_route (by_short call before same at to_come) =
-          let one : before ≡ answer = short-answer t before answer _ left u (subst (λ (r : Route). phase_of_walk r (goes_on t (followed cursor l r) (owner_part s l).owner left) ≡ phases.Walk u (Short answer)) same (onward (by_short call before same at to_come))) in
+          let one = short-answer t before answer (owner_part s l).owner owner u (onward (Short before) same) in
           went_on cursor (at.phased ∙ (ap (phases.Walk cursor) same ∙ ap (λ (b : Reply). phases.Walk cursor (Short b)) one)) both.none
 
   pub comes : IsNext s t e → Comes s t e answer
@@ -215,7 +199,7 @@ module _ (s : State) (t : TaskId) (e : Event) (answer : Reply) (u : TaskId) (of 
   comes (by_wait l (is_leave is)) =
       let x : Event = leave_event t l (owner_part s l) (task_at (shared s) (owner_part s l).owner) in
       let both = starts x replies.Interrupted (owner_part s l).owner (around_left s x).owner is.event refl refl in
-      begun (by_leave l (sym both.0) is) both.1
+      begun (ended_leave l (sym both.0) is) both.1
   comes (by_release l (is_free is)) = answered _ is.event refl (λ n. cc)
   comes (by_release l (is_give is)) = answered _ is.event refl (λ n. cc)
   comes (by_walk route cursor (is_walk l key is)) = linked route cursor l key is
@@ -225,7 +209,7 @@ module _ (s : State) (t : TaskId) (e : Event) (answer : Reply) (u : TaskId) (of 
   comes (by_confirm l path (is_cycle is)) =
       let x : Event = cycle_event t path (lock_at (shared s) (first_lock path)) (task_at (shared s) (first_owner path)) in
       let both = starts x replies.Deadlock (first_owner path) (around_left s x).owner is.event refl refl in
-      begun (by_cycle l path (sym both.0) is) both.1
+      begun (ended_cycle l path (sym both.0) is) both.1
   comes (by_signal v is) = answered _ is.event refl (λ n. cc)
   comes (by_setprio v prio is) =
       let x : Event = setprio_event t v prio (task_part s v) in
@@ -274,13 +258,13 @@ module _ (s : State) (t : TaskId) (e : Event) (answer : Reply) (of : of_wait ans
   answers (by_acquire l (is_busy is)) = other _ is.event refl
   answers (by_wait l (is_wait is)) = other _ is.event refl
   answers (by_wait l (is_again is)) = other _ is.event refl
-  answers (by_wait l (is_leave is)) = by_ending (by_leave l (sym (walk-answer replies.Interrupted answer _ (told _ is.event))) is)
+  answers (by_wait l (is_leave is)) = by_ending (ended_leave l (sym (walk-answer replies.Interrupted answer _ (told _ is.event))) is)
   answers (by_release l (is_free is)) = other _ is.event refl
   answers (by_release l (is_give is)) = other _ is.event refl
   answers (by_walk route u (is_walk l key is)) = short_done route u _ is.how (told _ is.event)
   answers (by_walk route u (is_walkend is)) = short_done route u _ is.how (told _ is.event)
   answers (by_confirm l path (is_restart link is)) = other _ is.event refl
-  answers (by_confirm l path (is_cycle is)) = by_ending (by_cycle l path (sym (walk-answer replies.Deadlock answer _ (told _ is.event))) is)
+  answers (by_confirm l path (is_cycle is)) = by_ending (ended_cycle l path (sym (walk-answer replies.Deadlock answer _ (told _ is.event))) is)
   answers (by_signal u is) = other _ is.event (signal-other (task_part s u))
   answers (by_setprio u prio is) = let never : of_wait replies.Done ≡ true = subst (λ (b : Reply). of_wait b ≡ true) (sym (walk-answer replies.Done answer _ (told _ is.event))) of in absurd cc
 
@@ -395,9 +379,10 @@ module _ (answer : Reply) (P : TaskId → State → Event → Type 0) where
     abbrev AllUnderWay : State → List Event → Type 0
     AllUnderWay s events = (t u : TaskId) → (thread_part (after s events) t).phase ≡ phases.Walk u (Short answer) → IsUnderWay s t events
 
-    way-more : (s : State) (made : ℕ) (events : List Event) (e : Event) → IsLawful (after s events) made → IsNext (after s events) e.task e → e.task.0 < length (after s events).threads → AllUnderWay s events
-        → AllUnderWay s (events ++ e ∷ [])
-    way-more s made events e lawful next lt were t u walks = at_each_task Aim e.task t own others (subst (λ (x : State). (thread_part x t).phase ≡ phases.Walk u (Short answer)) (after-more s events e) walks)
+    way-more : (s : State) (made : ℕ) (events : List Event) (e : Event) → IsLawful (after s events) made → IsNext (after s events) e.task e
+        → e.task.0 < length (after s events).threads → AllUnderWay s events → AllUnderWay s (events ++ e ∷ [])
+    way-more s made events e lawful next lt were t u walks =
+        at_each_task Aim e.task t own others (subst (λ (x : State). (thread_part x t).phase ≡ phases.Walk u (Short answer)) (after-more s events e) walks)
       where
         there : State
         there = after s events
@@ -414,16 +399,18 @@ module _ (answer : Reply) (P : TaskId → State → Event → Type 0) where
 
         others : nat_eq e.task.0 t.0 ≡ false → Aim t
         others ne here =
-            under_way-on s t events e (were t u (sym (ap (λ (th : ThreadPart). th.phase) (thread-other there e t ne)) ∙ here)) (λ same. absurd (other_number e.task.0 t.0 ne (ap (λ (v : TaskId). v.0) same)))
+            let before = sym (ap (λ (th : ThreadPart). th.phase) (thread-other there e t ne)) ∙ here in
+            under_way-on s t events e (were t u before) (λ same. absurd (other_number e.task.0 t.0 ne (ap (λ (v : TaskId). v.0) same)))
 
     way-along : (s : State) (made : ℕ) (done events : List Event) → IsLawful (after s done) made → IsRun (after s done) events → AllUnderWay s done → AllUnderWay s (done ++ events)
     way-along s made done [] lawful run were = subst (AllUnderWay s) (sym (append-nil done)) were
     way-along s made done (e ∷ events) lawful run were =
         let next = run-next (after s done) made e events lawful run in
         let there = next-task (after s done) e.task e run.0 in
+        let left = run-lawful (after s done) made e events lawful run in
         let same = sym (after-more s done e) in
         subst (AllUnderWay s) (append-more done e events)
-        (way-along s (suc made) (done ++ e ∷ []) events (subst (λ (x : State). IsLawful x (suc made)) same (run-lawful (after s done) made e events lawful run)) (subst (λ (x : State). IsRun x events) same run.1)
+        (way-along s (suc made) (done ++ e ∷ []) events (subst (λ (x : State). IsLawful x (suc made)) same left) (subst (λ (x : State). IsRun x events) same run.1)
         (way-more s made done e lawful next there were))
 
     -- so each such answer has its cause, or is given at once

@@ -33,7 +33,8 @@ use Rattle.rt_model.proofs.Prefixes.{lawful-there, next-there}
 
 -- ---- a task that is responsible for a cycle that stands
 
-module _ (s : State) (made : ℕ) (t : TaskId) (e : Event) (cycle : List (ℕ × ℕ)) (lawful : IsLawful s made) (next : IsNext s t e) (stands : IsCycle s cycle) (responsible : IsResponsible s cycle) (first : first_task t cycle ≡ t) where
+module _ (s : State) (made : ℕ) (t : TaskId) (e : Event) (cycle : List (ℕ × ℕ)) (lawful : IsLawful s made) (next : IsNext s t e)
+    (stands : IsCycle s cycle) (responsible : IsResponsible s cycle) (first : first_task t cycle ≡ t) where
   -- its event goes along the cycle, or tells of it
   abbrev Follows : Type 0
   Follows = IsWalkAlong s cycle e ⊎ TellsCycle cycle e
@@ -157,7 +158,8 @@ cycles-law s made events lawful run =
     let next = next-there s made events lawful run in
     record {
       watched = λ prefix rest is. (there prefix rest is).responsible;
-      along = λ prefix rest e cycle is stands responsible first. follows (after s prefix) (made + length prefix) e.task e cycle (there prefix (e ∷ rest) is) (next prefix rest e is) stands responsible first;
+      along = λ prefix rest e cycle is stands responsible first.
+          follows (after s prefix) (made + length prefix) e.task e cycle (there prefix (e ∷ rest) is) (next prefix rest e is) stands responsible first;
       stays = λ prefix rest e cycle is responsible other. stays-responsible (after s prefix) e cycle responsible other;
       restarts = λ prefix rest e is kind. names-broken (after s prefix) (made + length prefix) e.task e (there prefix (e ∷ rest) is) (ap restarts kind) (next prefix rest e is);
     }

@@ -16,7 +16,7 @@ use Rattle.rt_model.specs.laws.Deadlocks.{IsHeldItself, IsInCycle, DeadlocksLaw}
 use Rattle.rt_model.proofs.NextEvents.{IsNext}
 use Rattle.rt_model.proofs.events.Own.{IsOwn}
 use Rattle.rt_model.proofs.graph.Standing.{confirm-cycle, confirm-begins}
-use Rattle.rt_model.proofs.laws.Causes.{EndsWait, by_leave, by_cycle, ends-out, own-held, HasCause, has-cause}
+use Rattle.rt_model.proofs.laws.Causes.{EndsWait, ended_leave, ended_cycle, ends-out, own-held, HasCause, has-cause}
 use Rattle.rt_model.proofs.laws.Holders.{held-owned, holder-told}
 use Rattle.rt_model.proofs.Prefixes.{lawful-there}
 
@@ -29,18 +29,19 @@ record EndsByCycle (t : TaskId) (s : State) (e : Event) : Type 0 where
   out : (l : LockId) → row_of t (owner_part (state_after s e) l).rows ≡ None
 
 ends-cycle : (s : State) (made : ℕ) (t : TaskId) (e : Event) → IsLawful s made → IsNext s t e → EndsWait s t e replies.Deadlock → EndsByCycle t s e
-ends-cycle s made t e lawful next (by_leave l its is) = cc
-ends-cycle s made t e lawful next (by_cycle l path its is) =
+ends-cycle s made t e lawful next (ended_leave l its is) = cc
+ends-cycle s made t e lawful next (ended_cycle l path its is) =
     let same : path ≡ e.path = sym (ap (λ (x : Event). x.path) is.event) in
     record {
       cycle = subst (IsCycle s) same (confirm-cycle s t path lawful.walks is.at.at.phased made lawful.kept lawful.rows is.stand);
       begins = subst (λ (p : List (ℕ × ℕ)). first_task t p ≡ t) same (confirm-begins s t path lawful.walks is.at.at.phased);
-      out = ends-out s made t e replies.Deadlock lawful next (by_cycle l path its is);
+      out = ends-out s made t e replies.Deadlock lawful next (ended_cycle l path its is);
     }
 
 -- ---- over a run, from a state in which nobody owns a lock, and no task has made a call's first event
 
-module _ (s : State) (made : ℕ) (events : List Event) (lawful : IsLawful s made) (run : IsRun s events) (free : (l : LockId) → (owner_part s l).owner ≡ None) (idle : (t : TaskId) → (thread_part s t).phase ≡ phases.Start) where
+module _ (s : State) (made : ℕ) (events : List Event) (lawful : IsLawful s made) (run : IsRun s events)
+    (free : (l : LockId) → (owner_part s l).owner ≡ None) (idle : (t : TaskId) → (thread_part s t).phase ≡ phases.Start) where
   held-itself : (before rest : List Event) (e : Event) (call : Call) → before ++ e ∷ rest ≡ events → IsOwn (after s before) e.task call replies.Deadlock e → IsHeldItself before e
   held-itself before rest e call is own =
       let held = (own-held (after s before) e.task call replies.Deadlock e own refl).1 in
@@ -50,7 +51,8 @@ module _ (s : State) (made : ℕ) (events : List Event) (lawful : IsLawful s mad
         held = (held.0, held.1, holder-told s made events lawful run free before (e ∷ rest) held.0 is ∙ held-owned (after s before) (made + length before) e.task held.0 there held.2);
       }
 
-  by_cause : (before rest : List Event) (e : Event) → before ++ e ∷ rest ≡ events → ((call : Call) × IsOwn (after s before) e.task call replies.Deadlock e) ⊎ HasCause replies.Deadlock EndsByCycle s before e
+  by_cause : (before rest : List Event) (e : Event) → before ++ e ∷ rest ≡ events
+      → ((call : Call) × IsOwn (after s before) e.task call replies.Deadlock e) ⊎ HasCause replies.Deadlock EndsByCycle s before e
       → IsHeldItself before e ⊎ IsInCycle s before e
   by_cause before rest e is (inl own) = inl (held-itself before rest e own.0 is own.1)
   by_cause before rest e is (inr cause) = inr (record {
@@ -64,4 +66,4 @@ module _ (s : State) (made : ℕ) (events : List Event) (lawful : IsLawful s mad
 
   pub deadlocks-law : DeadlocksLaw s events
   deadlocks-law = λ before rest e is deadlock.
-      by_cause before rest e is (has-cause replies.Deadlock EndsByCycle refl (λ s made e lawful next ended. ends-cycle s made e.task e lawful next ended) s made events lawful run idle before rest e is deadlock)
+      by_cause before rest e is (has-cause replies.Deadlock EndsByCycle refl (λ s made e. ends-cycle s made e.task e) s made events lawful run idle before rest e is deadlock)

@@ -148,7 +148,8 @@ module _ (s : State) (made : ℕ) (t : TaskId) (e : Event) (lawful : IsLawful s 
       by_route : WalksIn s t route u → ResponsibleLaw (state_after s e)
       by_route (by_full path m full asks) =
           let onward = full-link s made t route u l key e path lawful full is in
-          kept-walk s (state_after s e) (same-edges _ is.event refl refl) t other-phase u l path onward.0 (asks.at.phased ∙ ap (phases.Walk u) full) (ap blocking is.blocked) onward.1 onward.2 lawful.responsible
+          let phase = asks.at.phased ∙ ap (phases.Walk u) full in
+          kept-walk s (state_after s e) (same-edges _ is.event refl refl) t other-phase u l path onward.0 phase (ap blocking is.blocked) onward.1 onward.2 lawful.responsible
       by_route (by_short call answer short at to_come) = stays _ is.event refl refl (short-blocked u answer call (subst (λ (r : Route). IsIn s t (phases.Walk u r) call) short at))
 
   of_end : (route : Route) (u : TaskId) → IsWalkEnd s t route u e → ResponsibleLaw (state_after s e)

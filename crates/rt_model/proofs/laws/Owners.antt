@@ -1,5 +1,5 @@
 -- A next event keeps the owners law.
-use Rattle.std.proofs.Common.{◌≡◌, inl, inr, ℕ, ◌<◌, Bool, true, false, cond, List, length, refl, sym, ap, ◌∙◌, subst, Option, Some, None}
+use Rattle.std.proofs.Common.{◌≡◌, ℕ, ◌<◌, Bool, true, false, cond, List, length, refl, sym, ap, ◌∙◌, subst, Option, Some, None}
 use Rattle.std.specs.Prelude.{nat_eq, nat_lt}
 use Rattle.std.proofs.lemmas.Bool.{cond-true, cond-false, cond_both}
 use Rattle.rt_base.specs.declared.call.Call.{Call}
@@ -20,7 +20,7 @@ use Rattle.rt_model.specs.Rules.{touched}
 use Rattle.rt_model.specs.events.Own.{unless_nested, if_held, if_not_held, private_answer}
 use Rattle.rt_model.specs.steps.Thread.{with_hold, holds_after}
 use Rattle.rt_model.specs.StateAfter.{effect_in, thread_after, state_after}
-use Rattle.rt_model.specs.Stage.{IsServed, IsToCome, IsPhaseOf}
+use Rattle.rt_model.specs.Stage.{IsServed, IsPhaseOf}
 use Rattle.rt_model.specs.steps.Chain.{followed, goes_on}
 use Rattle.rt_model.specs.steps.Task.{with_own, signal_answer}
 use Rattle.rt_model.specs.laws.Owners.{OwnersLaw, owned_by}
@@ -30,6 +30,7 @@ use Rattle.rt_model.proofs.Links.{walked_thread, link-thread, end-thread, setpri
 use Rattle.rt_model.proofs.NextEvents.{IsNext, by_own, by_acquire, by_wait, by_release, by_walk, by_confirm, by_signal, by_setprio}
 use Rattle.rt_model.proofs.Owned.{changes_owner, owners-kept}
 use Rattle.rt_model.proofs.Routes.{walk-fits, setprio-fits, SameSort, SameSort-itself, SameSort-followed, walked-holds}
+use Rattle.rt_model.proofs.ToCome.{to_come-holds}
 use Rattle.rt_model.proofs.events.Acquire.{is_fast, is_mark, is_take, is_busy, IsAcquiring, fast-acquiring, take-acquiring, got-holds}
 use Rattle.rt_model.proofs.events.Walk.{is_walk, is_walkend, is_restart, is_cycle}
 use Rattle.rt_model.proofs.events.Wait.{is_wait, is_again, is_leave}
@@ -82,15 +83,8 @@ holds_at : (thread : ThreadPart) (call : Call) (answer : Reply) → call_of thre
 holds_at thread call answer is = ap (λ (c : Option Call). holds_after thread c answer) is
 
 -- nor does the answer of a short walk
-to_come_holds : (thread : ThreadPart) (call : Call) (answer : Reply) → IsToCome call answer → holds_after thread (Some call) answer ≡ thread.holds
-to_come_holds thread (calls.Lock l) answer is = ap (holds_after thread (Some (calls.Lock l))) is
-to_come_holds thread (calls.LockInt l) answer (inl is) = ap (holds_after thread (Some (calls.LockInt l))) is
-to_come_holds thread (calls.LockInt l) answer (inr is) = ap (holds_after thread (Some (calls.LockInt l))) is
-to_come_holds thread (calls.SetPrio u prio) answer is = refl
-to_come_holds thread _ answer is = absurd is
-
 short_holds : (thread : ThreadPart) (u : TaskId) (answer : Reply) (call : Option Call) → IsPhaseOf (phases.Walk u (Short answer)) call → holds_after thread call answer ≡ thread.holds
-short_holds thread u answer (Some call) fits = to_come_holds thread call answer fits
+short_holds thread u answer (Some call) fits = to_come-holds (λ c a. holds_after thread (Some c) a ≡ thread.holds) call answer fits (λ l. refl) (λ l. refl) (λ l. refl) (λ v prio. refl)
 short_holds thread u answer None fits = absurd fits
 
 -- so a walk leaves what its thread holds

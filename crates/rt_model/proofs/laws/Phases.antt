@@ -34,7 +34,8 @@ abbrev Phased : ThreadPart → Type 0
 Phased thread = IsPhaseOf thread.phase (call_of thread)
 
 -- a phase of a call that waits
-asks_phased : (s : State) (t : TaskId) (phase onward : Phase) (l : LockId) → Asks s t phase l → ((call : Call) → waits call ≡ true → IsPhaseOf onward (Some call)) → IsPhaseOf onward (call_of (thread_part s t))
+asks_phased : (s : State) (t : TaskId) (phase onward : Phase) (l : LockId) → Asks s t phase l
+    → ((call : Call) → waits call ≡ true → IsPhaseOf onward (Some call)) → IsPhaseOf onward (call_of (thread_part s t))
 asks_phased s t phase onward l asks fits = subst (IsPhaseOf onward) (sym asks.at.calling) (fits asks.call (asks-waits s t phase l asks))
 
 -- a task that has been queued waits, or walks
@@ -65,7 +66,8 @@ short_goes u o answer None fits = absurd fits
 walk_phased : (thread : ThreadPart) (t u : TaskId) (route onward : Route) (owner : Option TaskId) (task : TaskPart) → SameSort route onward → IsPhaseOf (phases.Walk u route) (call_of thread)
     → Phased (walked_thread thread route (goes_on t onward owner task))
 walk_phased thread t u route onward owner task sort =
-    walked-holds (λ r th. IsPhaseOf (phases.Walk u r) (call_of thread) → Phased th) thread t route onward owner task sort (λ path. full_waits u path (call_of thread)) (λ path rest. full_confirms u path rest (call_of thread))
+    walked-holds (λ r th. IsPhaseOf (phases.Walk u r) (call_of thread) → Phased th) thread t route onward owner task sort
+    (λ path. full_waits u path (call_of thread)) (λ path rest. full_confirms u path rest (call_of thread))
     (λ path rest o. full_goes u o path rest (call_of thread)) (λ answer fits. tt) (λ answer o. short_goes u o answer (call_of thread))
 
 -- ---- the law

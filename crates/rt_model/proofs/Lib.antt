@@ -7,6 +7,7 @@ pub mod Queues
 pub mod Touching
 pub mod Alike
 pub mod Calling
+pub mod ToCome
 pub mod events
 pub mod NextEvents
 pub mod PartsAfter

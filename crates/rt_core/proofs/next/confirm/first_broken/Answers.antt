@@ -1,5 +1,5 @@
-use Rattle.std.proofs.Common.{◌≡◌, false, true, not, ap, sym, ◌∙◌, Some, arith}
-use Rattle.rt_model.specs.Path.{Link, stands}
+use Rattle.std.proofs.Common.{◌≡◌, not, ap, sym, ◌∙◌, Some, arith}
+use Rattle.rt_model.specs.Path.{stands}
 use Rattle.rt_walk.specs.Link.{link_at}
 use Rattle.rt_core.proofs.PathLinks.{found-here, found-later, found-none}
 use Rattle.rt_core.proofs.next.confirm.first_broken.Goals.{After-stands}

@@ -30,6 +30,8 @@ const FREE: Told = (EventKind::Free, None, None, Some(Reply::Done));
 
 const MARK: Told = (EventKind::Mark, None, None, None);
 
+const WAIT: Told = (EventKind::Wait, None, None, None);
+
 const TAKE: Told = (EventKind::Take, None, None, Some(Reply::Got));
 
 const HELD: Told = (EventKind::Own, None, None, Some(Reply::Deadlock));
@@ -139,7 +141,78 @@ fn a_walk_goes_along_a_chain(rt: HostRuntime) -> Result<(), Fail> {
     reports(&rt, rt.alloc(), &script, &core, lines.as_slice())
 }
 
-// Makes the task's next event where so many are made, and compares it.
+#[test]
+fn a_cycle_is_looked_at(rt: HostRuntime) -> Result<(), Fail> {
+    let text = b"rtscript 1\ntask a 50 0\ntask b 40 0\nlock m mutex\nlock n mutex\n\
+        call a lock m\ncall a lock n\ncall b lock n\ncall b lock m\ngo\n";
+    let script = read_script(rt.alloc(), text)?;
+    assert!(rt; Core::can(&script));
+    let mut core = Core::new(rt.alloc(), &script)?;
+    makes(&rt, &script, &mut core, 0, A, FAST)?;
+    makes(&rt, &script, &mut core, 1, B, FAST)?;
+    makes(&rt, &script, &mut core, 2, A, MARK)?;
+    makes(&rt, &script, &mut core, 3, A, WAIT)?;
+    makes(&rt, &script, &mut core, 4, B, MARK)?;
+    let wait = (EventKind::Wait, None, Some((A, 40)), None);
+    makes(&rt, &script, &mut core, 5, B, wait)?;
+    let walk = (EventKind::Walk, None, None, None);
+    moves(&rt, &script, &mut core, 6, B, Note::Walk(A), walk)?;
+    let lines = [
+        "task a 50 40 D R 1/2 lock n 40\n",
+        "task b 40 40 D R 1/2 confirm\n",
+        "lock m a 1 b:40\n",
+        "lock n b 1 a:40\n",
+    ];
+    reports(&rt, rt.alloc(), &script, &core, lines.as_slice())?;
+    let cycle = (EventKind::Cycle, None, Some((A, 50)), None);
+    moves(&rt, &script, &mut core, 7, B, Note::Confirm, cycle)?;
+    let walk = (EventKind::Walk, None, None, Some(Reply::Deadlock));
+    moves(&rt, &script, &mut core, 8, B, Note::Walk(A), walk)?;
+    let lines = [
+        "task a 50 50 D R 1/2 lock n 50\n",
+        "task b 40 40 R R 2/2 end\n",
+        "lock m a 0\n",
+        "lock n b 1 a:50\n",
+    ];
+    reports(&rt, rt.alloc(), &script, &core, lines.as_slice())
+}
+
+// The task that sleeps without an end has a next event once the signal has come.
+#[test]
+fn a_signal_ends_a_wait(rt: HostRuntime) -> Result<(), Fail> {
+    let text = b"rtscript 1\ntask a 50 0\ntask b 20 0\nlock m mutex\n\
+        call a lock m\ncall a signal b\ncall b lockint m\ngo\n";
+    let script = read_script(rt.alloc(), text)?;
+    assert!(rt; Core::can(&script));
+    let mut core = Core::new(rt.alloc(), &script)?;
+    makes(&rt, &script, &mut core, 0, A, FAST)?;
+    makes(&rt, &script, &mut core, 1, B, MARK)?;
+    let wait = (EventKind::Wait, None, Some((A, 20)), None);
+    makes(&rt, &script, &mut core, 2, B, wait)?;
+    let lines = [
+        "task a 50 20 R R 1/2 ready\n",
+        "task b 20 20 S R 0/1 lock m 20\n",
+        "lock m a 1 b:20\n",
+    ];
+    reports(&rt, rt.alloc(), &script, &core, lines.as_slice())?;
+    let signal = (EventKind::Wake, None, None, Some(Reply::Woke));
+    makes(&rt, &script, &mut core, 3, A, signal)?;
+    let leave = (
+        EventKind::Leave,
+        None,
+        Some((A, 50)),
+        Some(Reply::Interrupted),
+    );
+    makes(&rt, &script, &mut core, 4, B, leave)?;
+    let lines = [
+        "task a 50 50 R R 2/2 end\n",
+        "task b 20 20 R R 1/1 end\n",
+        "lock m a 0\n",
+    ];
+    reports(&rt, rt.alloc(), &script, &core, lines.as_slice())
+}
+
+// Makes the next event of a task that isn't in a walk, where so many are made, and compares it.
 fn makes(
     rt: &impl Abort,
     script: &Script,
@@ -151,9 +224,26 @@ fn makes(
     requires { IsOf script.now core.old.state }
     ensures { IsOf script.now core.new.state }
 {
+    moves(rt, script, core, made, t, Note::Ready, want)
+}
+
+// The same of a task that stands so.
+fn moves(
+    rt: &impl Abort,
+    script: &Script,
+    core: &mut Core,
+    made: u64,
+    t: TaskId,
+    note: Note,
+    want: Told,
+) -> Result<(), Fail>
+    requires { IsOf script.now core.old.state }
+    ensures { IsOf script.now core.new.state }
+{
     assert!(rt; t.0 < core.tasks() && core.made() == made && made < 10);
-    assert_eq!(rt; core.note(t), Note::Ready);
-    assert!(rt; !core.done() && !core.stuck() && !core.is_walking(t));
+    assert_eq!(rt; core.note(t), note);
+    assert!(rt; !core.done() && !core.stuck());
+    assert_eq!(rt; core.is_walking(t), note != Note::Ready);
     let event = core.next(t).ok_or("no event")?;
     assert_eq!(rt; told(&event), want);
     core.apply(&event);
@@ -251,7 +341,7 @@ fn reports(
     Ok(())
 }
 
-// Which scripts the machine plays: mutexes that are taken and released, and priorities that are set.
+// Which scripts the machine plays: mutexes that are taken and released, signals, and priorities that are set.
 #[test]
 fn scripts_that_can_be_played(rt: HostRuntime) -> Result<(), Fail> {
     for (lines, can) in [
@@ -269,10 +359,17 @@ fn scripts_that_can_be_played(rt: HostRuntime) -> Result<(), Fail> {
             true,
         ),
         (
-            "task a 5 0\nlock m mutex\ncall a lock m\ncall a lockint m\n",
+            "task a 5 0\nlock m mutex\ncall a lockint m\ncall a signal a\n",
+            true,
+        ),
+        (
+            "task a 5 0\nlock m mutex\ncall a lockint m\ncall a state S\n",
             false,
         ),
-        ("task a 5 0\ntask b 5 0\ncall b wake a\n", false),
+        (
+            "task a 5 0\ntask b 5 0\ncall b signal a\ncall b wake a\n",
+            false,
+        ),
         ("task a 5 0\ncall a schedule\n", false),
     ] {
         let text = format!(in rt.alloc(); "rtscript 1\n{lines}go\n")?;

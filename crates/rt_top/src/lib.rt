@@ -2,6 +2,8 @@
 #![tactic(auto)]
 
 #[cfg(test)]
+mod deadlock_tests;
+#[cfg(test)]
 mod fault_tests;
 mod message;
 mod options;
@@ -15,6 +17,8 @@ mod replaying;
 mod reporting;
 #[cfg(test)]
 mod row_tests;
+#[cfg(test)]
+mod signal_tests;
 mod status;
 #[cfg(test)]
 mod test_replays;

@@ -74,7 +74,7 @@ fn rows_of_two_tasks(rt: HostRuntime) -> Result<(), Fail> {
 // What a script may have beside the lines that are played.
 #[test]
 fn which_scripts_are_played(rt: HostRuntime) -> Result<(), Fail> {
-    let rows: [(&[u8], &[u8], u8); 5] = [
+    let rows: [(&[u8], &[u8], u8); 7] = [
         // comments, empty lines, processors, lines that are mixed, and no line feed at the end
         (
             b"rtscript 1\n\n# two processors\ncpus 2\nlock m mutex\ntask a 50 1\ncall a lock m\n#\npick a\ntask b 60 0\ncall a unlock m\ngo",
@@ -105,6 +105,18 @@ fn which_scripts_are_played(rt: HostRuntime) -> Result<(), Fail> {
             b"rtjournal 1\n1 a setprio a 7 a=7 -> done\nend done\ntask a 7 7 R R 1/1 end\n",
             0,
         ),
+        // a call that a signal can end
+        (
+            b"rtscript 1\ntask a 5 0\nlock m mutex\ncall a lockint m\ngo\n",
+            b"rtjournal 1\n1 a fast m -> got\nend done\ntask a 5 5 R R 1/1 end\nlock m a 0\n",
+            0,
+        ),
+        // a signal, and no lock
+        (
+            b"rtscript 1\ntask a 5 0\ntask b 6 0\ncall a signal b\ngo\n",
+            b"rtjournal 1\n1 a signal b -> missed\nend done\ntask a 5 5 R R 1/1 end\ntask b 6 6 R R 0/0 end\n",
+            0,
+        ),
     ];
     compare_replays(&rt, rt.alloc(), &rows)
 }
@@ -126,7 +138,7 @@ fn which_scripts_are_not_played(rt: HostRuntime) -> Result<(), Fail> {
         ),
         (b"rtscript 1\nlock l local\ngo\n", NOT_PLAYED, 3),
         (
-            b"rtscript 1\ntask a 5 0\nlock m mutex\ncall a lockint m\ngo\n",
+            b"rtscript 1\ntask a 5 0\nlock m mutex\ncall a lockint m\ncall a state S\ngo\n",
             NOT_PLAYED,
             3,
         ),
@@ -136,7 +148,7 @@ fn which_scripts_are_not_played(rt: HostRuntime) -> Result<(), Fail> {
             3,
         ),
         (
-            b"rtscript 1\ntask a 5 0\ntask b 5 0\ncall a setprio b 5\ncall b signal a\ngo\n",
+            b"rtscript 1\ntask a 5 0\ntask b 5 0\ncall a signal b\ncall b wake a\ngo\n",
             NOT_PLAYED,
             3,
         ),

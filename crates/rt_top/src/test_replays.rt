@@ -12,16 +12,41 @@ pub(crate) fn compare_replays<R: Abort + Threads + Sync>(
     alloc: Global,
     replays: &[(&[u8], &[u8], u8)],
 ) -> Result<(), Fail> {
-    let replay = words(alloc, &["replay"])?;
     for (text, printed, status) in replays {
-        let mut src = source(alloc, text)?;
-        let mut out = PlainSink::with_room(alloc, 1000).ok().ok_or("no memory")?;
-        assert_eq!(rt;
-            rtlab(rt, alloc, &replay, &mut src, &mut out, &AlwaysGo),
-            *status
-        );
-        assert_eq!(rt; out.bytes(), *printed);
+        compare_replay(rt, alloc, &["replay"], text, printed, *status)?;
     }
+    Ok(())
+}
+
+/// Replays each script with so many turns, which leave a task with a next event.
+pub(crate) fn compare_cuts<R: Abort + Threads + Sync>(
+    rt: &R,
+    alloc: Global,
+    replays: &[(&str, &[u8], &[u8])],
+) -> Result<(), Fail> {
+    for (turns, text, printed) in replays {
+        compare_replay(rt, alloc, &["replay", "--turns", turns], text, printed, 5)?;
+    }
+    Ok(())
+}
+
+/// Runs these words on the script, and compares what is written and the status.
+pub(crate) fn compare_replay<R: Abort + Threads + Sync>(
+    rt: &R,
+    alloc: Global,
+    texts: &[&str],
+    text: &[u8],
+    printed: &[u8],
+    status: u8,
+) -> Result<(), Fail> {
+    let words = words(alloc, texts)?;
+    let mut src = source(alloc, text)?;
+    let mut out = PlainSink::with_room(alloc, 20_000).ok().ok_or("no memory")?;
+    assert_eq!(rt;
+        rtlab(rt, alloc, &words, &mut src, &mut out, &AlwaysGo),
+        status
+    );
+    assert_eq!(rt; out.bytes(), printed);
     Ok(())
 }
 

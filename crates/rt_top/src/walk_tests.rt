@@ -1,7 +1,5 @@
 // Several mutexes: walks along chains of locks, and calls of `trylock` and `setprio`.
-use crate::rtlab;
-use crate::test_replays::{compare_replays, source, words};
-use rt_base::{AlwaysGo, PlainSink};
+use crate::test_replays::{compare_cuts, compare_replays};
 use std::alloc::{AllocError, Global};
 use std::test::Fail;
 
@@ -182,14 +180,7 @@ fn walks_that_are_cut(rt: HostRuntime) -> Result<(), Fail> {
               lock m a 1 w:30\n",
         ),
     ];
-    for (turns, text, printed) in rows {
-        let mut src = source(alloc, text)?;
-        let mut out = PlainSink::with_room(alloc, 1000).ok().ok_or("no memory")?;
-        let words = words(alloc, &["replay", "--turns", turns])?;
-        assert_eq!(rt; rtlab(&rt, alloc, &words, &mut src, &mut out, &AlwaysGo), 5);
-        assert_eq!(rt; out.bytes(), printed);
-    }
-    Ok(())
+    compare_cuts(&rt, alloc, &rows)
 }
 
 #[test]
@@ -1405,171 +1396,6 @@ fn priorities_that_are_set(rt: HostRuntime) -> Result<(), Fail> {
 }
 
 #[test]
-fn tasks_that_wait_in_a_circle(rt: HostRuntime) -> Result<(), Fail> {
-    let alloc = rt.alloc();
-    let rows: [(&[u8], &[u8], u8); 5] = [
-        // three tasks: the walk ends at its own task, and nobody gets on
-        (
-            b"rtscript 1\ntask a 50 0\ntask b 40 0\ntask c 30 0\nlock m1 mutex\nlock m2 mutex\nlock m3 mutex\n\
-              call a lock m1\ncall a lock m2\n\
-              call b lock m2\ncall b lock m3\n\
-              call c lock m3\ncall c lock m1\n\
-              pick a\npick b\npick c\npick a\npick a\npick b\npick b\npick c\npick c\ngo\n",
-            b"rtjournal 1\n\
-              1 a fast m1 -> got\n\
-              2 b fast m2 -> got\n\
-              3 c fast m3 -> got\n\
-              4 a mark m2\n\
-              5 a wait m2\n\
-              6 b mark m3\n\
-              7 b wait m3\n\
-              8 c mark m1\n\
-              9 c wait m1 a=30\n\
-              10 c walk a m2 b=30\n\
-              11 c walk b m3\n\
-              end stuck\n\
-              task a 50 30 D R 1/2 lock m2 30\n\
-              task b 40 30 D R 1/2 lock m3 30\n\
-              task c 30 30 D R 1/2 lock m1 30\n\
-              lock m1 a 1 c:30\n\
-              lock m2 b 1 a:30\n\
-              lock m3 c 1 b:30\n",
-            4,
-        ),
-        // two tasks, and a third whose walk comes from outside and goes round once
-        (
-            b"rtscript 1\ntask a 50 0\ntask b 40 0\ntask c 10 0\nlock m1 mutex\nlock m2 mutex\n\
-              call a lock m1\ncall a lock m2\n\
-              call b lock m2\ncall b lock m1\n\
-              call c lock m1\n\
-              pick a\npick b\npick a\npick a\npick b\npick b\npick b\npick c\npick c\ngo\n",
-            b"rtjournal 1\n\
-              1 a fast m1 -> got\n\
-              2 b fast m2 -> got\n\
-              3 a mark m2\n\
-              4 a wait m2\n\
-              5 b mark m1\n\
-              6 b wait m1 a=40\n\
-              7 b walk a m2\n\
-              8 c mark m1\n\
-              9 c wait m1 a=10\n\
-              10 c walk a m2 b=10\n\
-              11 c walk b m1\n\
-              end stuck\n\
-              task a 50 10 D R 1/2 lock m2 10\n\
-              task b 40 10 D R 1/2 lock m1 10\n\
-              task c 10 10 D R 0/1 lock m1 10\n\
-              lock m1 a 1 c:10 b:10\n\
-              lock m2 b 1 a:10\n",
-            4,
-        ),
-        // a full walk goes round once more where setprio has overtaken it
-        (
-            b"rtscript 1\ntask a 50 0\ntask b 40 0\ntask c 30 0\ntask d 20 0\nlock m1 mutex\nlock m2 mutex\nlock m3 mutex\n\
-              call a lock m1\ncall a lock m2\n\
-              call b lock m2\ncall b lock m3\n\
-              call c lock m3\ncall c lock m1\n\
-              call d setprio b 5\n\
-              pick a\npick b\npick c\npick a\npick a\npick b\npick b\npick c\npick c\npick c\npick d\npick c\npick c\npick c\npick c\ngo\n",
-            b"rtjournal 1\n\
-              1 a fast m1 -> got\n\
-              2 b fast m2 -> got\n\
-              3 c fast m3 -> got\n\
-              4 a mark m2\n\
-              5 a wait m2\n\
-              6 b mark m3\n\
-              7 b wait m3\n\
-              8 c mark m1\n\
-              9 c wait m1 a=30\n\
-              10 c walk a m2 b=30\n\
-              11 d setprio b 5 b=5\n\
-              12 c walk b m3 c=5\n\
-              13 c walk c m1 a=5\n\
-              14 c walk a m2\n\
-              15 c walk b m3\n\
-              16 d walk b m3 -> done\n\
-              end stuck\n\
-              task a 50 5 D R 1/2 lock m2 5\n\
-              task b 5 5 D R 1/2 lock m3 5\n\
-              task c 30 5 D R 1/2 lock m1 5\n\
-              task d 20 20 R R 1/1 end\n\
-              lock m1 a 1 c:5\n\
-              lock m2 b 1 a:5\n\
-              lock m3 c 1 b:5\n",
-            4,
-        ),
-        // the same from outside: the path is cut behind the walker, whose own link stays
-        (
-            b"rtscript 1\ntask a 50 0\ntask b 40 0\ntask c 10 0\ntask d 20 0\nlock m1 mutex\nlock m2 mutex\n\
-              call a lock m1\ncall a lock m2\n\
-              call b lock m2\ncall b lock m1\n\
-              call c lock m1\n\
-              call d setprio b 5\n\
-              pick a\npick b\npick a\npick a\npick b\npick b\npick b\npick c\npick c\npick c\npick d\npick c\npick c\npick c\ngo\n",
-            b"rtjournal 1\n\
-              1 a fast m1 -> got\n\
-              2 b fast m2 -> got\n\
-              3 a mark m2\n\
-              4 a wait m2\n\
-              5 b mark m1\n\
-              6 b wait m1 a=40\n\
-              7 b walk a m2\n\
-              8 c mark m1\n\
-              9 c wait m1 a=10\n\
-              10 c walk a m2 b=10\n\
-              11 d setprio b 5 b=5\n\
-              12 c walk b m1 a=5\n\
-              13 c walk a m2\n\
-              14 c walk b m1\n\
-              15 d walk b m1 -> done\n\
-              end stuck\n\
-              task a 50 5 D R 1/2 lock m2 5\n\
-              task b 5 5 D R 1/2 lock m1 5\n\
-              task c 10 10 D R 0/1 lock m1 10\n\
-              task d 20 20 R R 1/1 end\n\
-              lock m1 a 1 b:5 c:10\n\
-              lock m2 b 1 a:5\n",
-            4,
-        ),
-        // the same with the short walk first, which goes round to where keys are right
-        (
-            b"rtscript 1\ntask a 50 0\ntask b 40 0\ntask c 30 0\ntask d 20 0\nlock m1 mutex\nlock m2 mutex\nlock m3 mutex\n\
-              call a lock m1\ncall a lock m2\n\
-              call b lock m2\ncall b lock m3\n\
-              call c lock m3\ncall c lock m1\n\
-              call d setprio b 5\n\
-              pick a\npick b\npick c\npick a\npick a\npick b\npick b\npick c\npick c\npick c\npick d\ngo\n",
-            b"rtjournal 1\n\
-              1 a fast m1 -> got\n\
-              2 b fast m2 -> got\n\
-              3 c fast m3 -> got\n\
-              4 a mark m2\n\
-              5 a wait m2\n\
-              6 b mark m3\n\
-              7 b wait m3\n\
-              8 c mark m1\n\
-              9 c wait m1 a=30\n\
-              10 c walk a m2 b=30\n\
-              11 d setprio b 5 b=5\n\
-              12 d walk b m3 c=5\n\
-              13 d walk c m1 a=5\n\
-              14 d walk a m2 -> done\n\
-              15 c walk b m3\n\
-              end stuck\n\
-              task a 50 5 D R 1/2 lock m2 5\n\
-              task b 5 5 D R 1/2 lock m3 5\n\
-              task c 30 5 D R 1/2 lock m1 5\n\
-              task d 20 20 R R 1/1 end\n\
-              lock m1 a 1 c:5\n\
-              lock m2 b 1 a:5\n\
-              lock m3 c 1 b:5\n",
-            4,
-        ),
-    ];
-    compare_replays(&rt, alloc, &rows)
-}
-
-#[test]
 fn several_locks_of_one_owner(rt: HostRuntime) -> Result<(), Fail> {
     let alloc = rt.alloc();
     let rows: [(&[u8], &[u8], u8); 2] = [
@@ -1638,21 +1464,9 @@ fn several_locks_of_one_owner(rt: HostRuntime) -> Result<(), Fail> {
 #[test]
 fn chain_of_64_tasks(rt: HostRuntime) -> Result<(), Fail> {
     let alloc = rt.alloc();
-    let mut src = source(alloc, long_chain(alloc)?.as_slice())?;
-    let mut out = PlainSink::with_room(alloc, 20_000).ok().ok_or("no memory")?;
-    assert_eq!(rt;
-        rtlab(
-            &rt,
-            alloc,
-            &words(alloc, &["replay"])?,
-            &mut src,
-            &mut out,
-            &AlwaysGo
-        ),
-        0
-    );
-    assert_eq!(rt; out.bytes(), long_chain_journal(alloc)?.as_slice());
-    Ok(())
+    let text = long_chain(alloc)?;
+    let printed = long_chain_journal(alloc)?;
+    compare_replays(&rt, alloc, &[(text.as_slice(), printed.as_slice(), 0)])
 }
 
 /// The script of a chain of 64 tasks over 63 mutexes.

@@ -219,14 +219,13 @@ fn refusals(rt: HostRuntime) -> Result<(), Fail> {
             b"bad script: line 4, fault 8\n",
             3,
         ),
-        // interrupted_in_chain
+        // wakeup_spurious
         (
-            b"rtscript 1\ntask a 90 0\ntask b 50 0\ntask c 10 0\ntask d 20 0\nlock m1 mutex\nlock m2 mutex\n\
-              call a lock m1\ncall a unlock m1\n\
-              call b lock m2\ncall b lock m1\ncall b unlock m1\ncall b unlock m2\n\
-              call c lockint m2\n\
-              call d signal c\n\
-              pick a\npick b\npick b\npick b\npick c\npick c\npick c\npick d\npick c\npick c\ngo\n",
+            b"rtscript 1\ntask a 50 0\ntask b 50 0\ntask d 50 0\nlock m mutex\n\
+              call a lock m\ncall a unlock m\n\
+              call b state S\ncall b lock m\ncall b unlock m\ncall b schedule\n\
+              call d wake b\n\
+              pick a\npick b\npick b\npick b\npick d\npick b\ngo\n",
             b"bad script: line 0, fault 8\n",
             3,
         ),

@@ -147,8 +147,8 @@ module _ (s : State) (made : ℕ) (kept : KeptTopsLaw s) (rows : RowsLaw s made)
 -- ---- a path that is to be confirmed
 
 module _ (s : State) (t : TaskId) (path : List (ℕ × ℕ)) (walks : WalksLaw s) (phase : (thread_part s t).phase ≡ Confirm path) where
-  pub to-confirm : IsToConfirm (length s.threads) t (present_lock (thread_part s t)) path
-  to-confirm = subst (IsWalkOf (length s.threads) t (present_lock (thread_part s t))) phase (walks t)
+  pub to-confirm : IsToConfirm (length s.threads) (length s.locks) t (present_lock (thread_part s t)) path
+  to-confirm = subst (IsWalkOf (length s.threads) (length s.locks) t (present_lock (thread_part s t))) phase (walks t)
 
   -- where each link stands it is a cycle
   pub confirm-cycle : (made : ℕ) → KeptTopsLaw s → RowsLaw s made → first_broken (shared s) path ≡ None → IsCycle s path
@@ -158,7 +158,7 @@ module _ (s : State) (t : TaskId) (path : List (ℕ × ℕ)) (walks : WalksLaw s
   pub confirm-begins : first_task t path ≡ t
   confirm-begins = by_path path to-confirm
     where
-      by_path : (p : List (ℕ × ℕ)) → IsToConfirm (length s.threads) t (present_lock (thread_part s t)) p → first_task t p ≡ t
+      by_path : (p : List (ℕ × ℕ)) → IsToConfirm (length s.threads) (length s.locks) t (present_lock (thread_part s t)) p → first_task t p ≡ t
       by_path [] is = refl
       by_path (pair ∷ rest) is = ap (λ (n : ℕ). record { 0 = n }) is.begins.0
 

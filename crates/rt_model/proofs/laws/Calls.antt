@@ -1,5 +1,5 @@
 -- Each task's events make its calls once and in order.
-use Rattle.std.proofs.Common.{◌≡◌, inl, inr, ℕ, zero, suc, ◌+◌, ◌<◌, ◌≤◌, Bool, true, false, cond, List, [], ◌∷◌, length, drop, refl, sym, ap, ◌∙◌, subst, Option, Some, None, All, unwrap_or, arith}
+use Rattle.std.proofs.Common.{◌≡◌, inl, inr, ℕ, zero, suc, ◌+◌, ◌<◌, ◌≤◌, Bool, true, false, cond, ◌||◌, List, [], ◌∷◌, length, drop, refl, sym, ap, ◌∙◌, subst, Option, Some, None, All, unwrap_or, arith}
 use Rattle.std.specs.Prelude.{slice_get, nat_eq}
 use Rattle.std.proofs.lemmas.List.Elements.{All-head, All-tail}
 use Rattle.std.proofs.lemmas.List.Sums.{AllPass-from_list_all}
@@ -16,34 +16,38 @@ use Rattle.rt_base.specs.declared.kind.Kind.TheVariants.{Mutex}
 use Rattle.rt_base.specs.declared.reply.Reply.{Reply}
 use Rattle.rt_base.specs.declared.reply.Reply.TheVariants as replies
 use Rattle.rt_model.specs.declared.event.Event.{Event}
+use Rattle.rt_model.specs.declared.event_kind.EventKind.{EventKind}
 use Rattle.rt_model.specs.declared.event_kind.EventKind.TheVariants as kinds
 use Rattle.rt_model.specs.declared.hold.Hold.{Hold}
 use Rattle.rt_model.specs.declared.phase.Phase.{Phase}
+use Rattle.rt_model.specs.declared.phase.Phase.TheVariants as phases
 use Rattle.rt_model.specs.declared.phase.Route.{Route}
 use Rattle.rt_model.specs.declared.phase.Route.TheVariants.{Short}
-use Rattle.rt_model.specs.Parts.{ThreadPart, call_of}
+use Rattle.rt_model.specs.Parts.{ThreadPart, call_of, hold_of}
 use Rattle.rt_model.specs.State.{State, shared, start, fresh_thread, kinds_in, thread_part}
 use Rattle.rt_model.specs.steps.Thread.{answered_with}
 use Rattle.rt_model.specs.steps.Chain.{answer_of_walk}
 use Rattle.rt_model.specs.laws.Keys.{StandsAt}
 use Rattle.rt_model.specs.Effect.{around}
-use Rattle.rt_model.specs.events.Own.{unless_nested, if_held, if_not_held, spinning_holds}
+use Rattle.rt_model.specs.events.Own.{unless_nested, if_held, if_not_held, spinning_holds, own_event}
 use Rattle.rt_model.specs.Rules.{touched}
 use Rattle.rt_model.specs.StateAfter.{effect_in, shared_after, state_after}
 use Rattle.rt_model.specs.Run.{after, IsRun, is_at_end, is_done, is_stuck, ended_of}
-use Rattle.rt_model.specs.Stage.{IsStaged}
+use Rattle.rt_model.specs.Stage.{IsToCome, IsStaged}
 use Rattle.rt_model.specs.laws.Lawful.{IsLawful}
 use Rattle.rt_model.specs.laws.Shape.{IsOf}
-use Rattle.rt_model.specs.laws.Calls.{can_have, NamesFor, IsOfCall, IsOfWalk, is_of_walk, then_make, makes_first, Make, events_of, answered_after, CallsLaw}
+use Rattle.rt_model.specs.laws.Calls.{can_have_waiting, can_have_signalled, can_have, NamesFor, IsOfCall, IsOfWalk, is_of_walk, then_make, makes_first, Make, events_of, answered_after, CallsLaw}
 use Rattle.rt_model.proofs.Lists.{All-default, read-map}
 use Rattle.rt_model.proofs.Numbers.{same_task}
-use Rattle.rt_model.proofs.Calling.{IsIn}
-use Rattle.rt_model.proofs.NextEvents.{IsNext, by_own, by_acquire, by_wait, by_release, by_walk, by_setprio}
+use Rattle.rt_model.proofs.Calling.{IsIn, WaitsFor, by_lock, by_lockint, waits-holds, Asks}
+use Rattle.rt_model.proofs.Leaves.{IsLeft, by_leave, by_cycle, left-is, leave-left, cycle-left}
+use Rattle.rt_model.proofs.NextEvents.{IsNext, by_own, by_acquire, by_wait, by_release, by_walk, by_confirm, by_signal, by_setprio}
+use Rattle.rt_model.proofs.ToCome.{to_come-holds, answered-holds}
 use Rattle.rt_model.proofs.events.Own.{IsOwn}
 use Rattle.rt_model.proofs.events.Acquire.{is_fast, is_mark, is_take, is_busy, IsAcquireOf, IsAcquiring, fast-acquiring, take-acquiring}
-use Rattle.rt_model.proofs.events.Wait.{is_wait, is_again}
+use Rattle.rt_model.proofs.events.Wait.{is_wait, is_again, is_leave}
 use Rattle.rt_model.proofs.events.Release.{is_free, is_give}
-use Rattle.rt_model.proofs.events.Walk.{WalksIn, by_full, by_short, is_walk, is_walkend}
+use Rattle.rt_model.proofs.events.Walk.{WalksIn, by_full, by_short, is_walk, is_walkend, is_restart, is_cycle}
 use Rattle.rt_model.proofs.PartsAfter.{thread-own, thread-other, thread-phase}
 use Rattle.rt_model.proofs.Prefixes.{run-next, run-lawful, next-there, next-task, IsOf-along}
 use Rattle.rt_model.proofs.Starts.{IsOf-start}
@@ -84,61 +88,107 @@ notowner-answer false answer is = cc
 written : (cpu : Cpu) (call : Call) (e x : Event) → e ≡ x → can_have call x.kind x.reply ≡ true → NamesFor x.kind cpu call x → IsOfCall cpu call e
 written cpu call e x is can names = subst (IsOfCall cpu call) (sym is) (record { can = can; names = names })
 
+-- one that waits can have what each that waits can
+can-waiting : (call : Call) (l : LockId) (kind : EventKind) (reply : Option Reply) → WaitsFor call l → can_have_waiting kind reply ≡ true → can_have call kind reply ≡ true
+can-waiting call l kind reply waits_for can = waits-holds (λ c. can_have c kind reply ≡ true) call l waits_for can (ap (λ (b : Bool). b || can_have_signalled kind reply) can)
+
+-- ---- answers
+
+own-waits : (s : State) (t : TaskId) (call : Call) (l : LockId) (answer : Reply) (e : Event) → IsStaged s → WaitsFor call l
+    → unless_nested (spinning_holds (thread_part s t).kinds (thread_part s t).holds) (if_held (hold_of (thread_part s t) l).owns) ≡ Some answer
+    → e ≡ own_event t (Some l) answer → IsOfCall (thread_part s t).cpu call e
+own-waits s t call l answer e staged waits_for why is =
+    let deadlock = deadlock-answer _ _ answer (none-spins (thread_part s t).kinds (thread_part s t).holds (kinds_known s t staged)) why in
+    written (thread_part s t).cpu call e _ is (can-waiting call l kinds.Own _ waits_for (ap (λ (a : Reply). can_have_waiting kinds.Own (Some a)) deadlock))
+    (waits-holds (λ c. NamesFor kinds.Own (thread_part s t).cpu c (own_event t (Some l) answer)) call l waits_for (refl, refl, refl) (refl, refl, refl))
+
 own-of : (s : State) (t : TaskId) (call : Call) (answer : Reply) (e : Event) → IsStaged s → IsOwn s t call answer e → IsOfCall (thread_part s t).cpu call e
-own-of s t (calls.Lock l) answer e staged is =
-    let deadlock = deadlock-answer _ _ answer (none-spins (thread_part s t).kinds (thread_part s t).holds (kinds_known s t staged)) is.why in
-    written (thread_part s t).cpu (calls.Lock l) e _ is.event (ap (λ (a : Reply). can_have (calls.Lock l) kinds.Own (Some a)) deadlock) (refl, refl, refl)
+own-of s t (calls.Lock l) answer e staged is = own-waits s t (calls.Lock l) l answer e staged (by_lock refl) is.why is.event
+own-of s t (calls.LockInt l) answer e staged is = own-waits s t (calls.LockInt l) l answer e staged (by_lockint refl) is.why is.event
 own-of s t (calls.Unlock l) answer e staged is =
     let notowner = notowner-answer _ answer is.why in
     written (thread_part s t).cpu (calls.Unlock l) e _ is.event (ap (λ (a : Reply). can_have (calls.Unlock l) kinds.Own (Some a)) notowner) (refl, refl, refl)
 own-of s t (calls.TryLock l) answer e staged is = let why = is.why in cc
+own-of s t (calls.Signal u) answer e staged is = let why = is.why in cc
 own-of s t (calls.SetPrio u prio) answer e staged is = let why = is.why in cc
 own-of s t _ answer e staged is = absurd is.at.served
+
+-- a short walk's link, and its end
+walk-can : (next : Option Phase) (call : Call) (answer : Reply) → IsToCome call answer → can_have call kinds.Walk (answer_of_walk (Short answer) next) ≡ true
+walk-can next call answer to_come =
+    let Can : Option Reply → Call → Type 0 = λ reply c. can_have c kinds.Walk reply ≡ true in
+    answered-holds (λ reply. Can reply call) answer next (to_come-holds (λ c a. Can (Some a) c) call answer to_come (λ l. refl) (λ l. refl) (λ l. refl) (λ v prio. refl))
+    (to_come-holds (λ c a. Can None c) call answer to_come (λ l. refl) (λ l. refl) (λ l. refl) (λ v prio. refl))
+
+walkend-can : (call : Call) (answer : Reply) → IsToCome call answer → can_have call kinds.WalkEnd (Some answer) ≡ true
+walkend-can call answer to_come = to_come-holds (λ c a. can_have c kinds.WalkEnd (Some a) ≡ true) call answer to_come (λ l. refl) (λ l. refl) (λ l. refl) (λ v prio. refl)
+
+signal-can : (u : TaskId) (woke : Bool) → can_have (calls.Signal u) kinds.Wake (Some (cond woke replies.Woke replies.Missed)) ≡ true
+signal-can u true = refl
+signal-can u false = refl
+
+-- ---- events
 
 -- an event that comes about as x, in a phase of this call
 in_call : (s : State) (t : TaskId) (phase : Phase) (call : Call) (e x : Event) → IsIn s t phase call → e ≡ x → can_have call x.kind x.reply ≡ true → NamesFor x.kind (thread_part s t).cpu call x → IsAtCall s t e
 in_call s t phase call e x at is can names = record { call = call; at = at.calling; of = written (thread_part s t).cpu call e x is can names }
 
+-- and in one of a call that waits
+asks_call : (s : State) (t : TaskId) (phase : Phase) (l : LockId) (e x : Event) → Asks s t phase l → e ≡ x → can_have_waiting x.kind x.reply ≡ true
+    → NamesFor x.kind (thread_part s t).cpu (calls.Lock l) x → NamesFor x.kind (thread_part s t).cpu (calls.LockInt l) x → IsAtCall s t e
+asks_call s t phase l e x asks is can lock lockint =
+    in_call s t phase asks.call e x asks.at is (can-waiting asks.call l x.kind x.reply asks.waits_for can) (waits-holds (λ c. NamesFor x.kind (thread_part s t).cpu c x) asks.call l asks.waits_for lock lockint)
+
 -- of a task that gets the lock
-got_call : (s : State) (t : TaskId) (l : LockId) (e x : Event) → IsAcquiring s t l → e ≡ x → IsOfCall (thread_part s t).cpu (calls.Lock l) x → IsOfCall (thread_part s t).cpu (calls.TryLock l) x → IsAtCall s t e
-got_call s t l e x acquiring is waits tries = record { call = acquiring.call; at = acquiring.calling; of = subst (IsOfCall (thread_part s t).cpu acquiring.call) (sym is) (by_call acquiring.acquires) }
+got_call : (s : State) (t : TaskId) (l : LockId) (e x : Event) → IsAcquiring s t l → e ≡ x → IsOfCall (thread_part s t).cpu (calls.Lock l) x → IsOfCall (thread_part s t).cpu (calls.LockInt l) x
+    → IsOfCall (thread_part s t).cpu (calls.TryLock l) x → IsAtCall s t e
+got_call s t l e x acquiring is lock lockint tries = record { call = acquiring.call; at = acquiring.calling; of = subst (IsOfCall (thread_part s t).cpu acquiring.call) (sym is) (by_call acquiring.acquires) }
   where
     by_call : IsAcquireOf l acquiring.call → IsOfCall (thread_part s t).cpu acquiring.call x
-    by_call (inl same) = subst (λ (call : Call). IsOfCall (thread_part s t).cpu call x) (sym same) waits
+    by_call (inl waits_for) = waits-holds (λ c. IsOfCall (thread_part s t).cpu c x) acquiring.call l waits_for lock lockint
     by_call (inr same) = subst (λ (call : Call). IsOfCall (thread_part s t).cpu call x) (sym same) tries
 
 -- of a walk, which has an answer where a short one ends
-walk_call : (s : State) (t : TaskId) (route : Route) (u : TaskId) (next : Option Phase) (e x : Event) → WalksIn s t route u → e ≡ x → x.reply ≡ answer_of_walk route next → ((call : Call) → NamesFor x.kind (thread_part s t).cpu call x)
-    → ((l : LockId) → can_have (calls.Lock l) x.kind None ≡ true) → ((v : TaskId) (prio : ℕ) → can_have (calls.SetPrio v prio) x.kind (answer_of_walk (Short replies.Done) next) ≡ true) → IsAtCall s t e
-walk_call s t route u next e x (by_full path l same at) is reply names waits sets =
+walk_call : (s : State) (t : TaskId) (route : Route) (u : TaskId) (next : Option Phase) (e x : Event) → WalksIn s t route u → e ≡ x → x.reply ≡ answer_of_walk route next
+    → ((call : Call) → NamesFor x.kind (thread_part s t).cpu call x)
+    → can_have_waiting x.kind None ≡ true → ((call : Call) (answer : Reply) → IsToCome call answer → can_have call x.kind (answer_of_walk (Short answer) next) ≡ true) → IsAtCall s t e
+walk_call s t route u next e x (by_full path l same asks) is reply names waits short =
     let none : x.reply ≡ None = reply ∙ ap (λ (r : Route). answer_of_walk r next) same in
-    in_call s t _ (calls.Lock l) e x at is (ap (can_have (calls.Lock l) x.kind) none ∙ waits l) (names (calls.Lock l))
-walk_call s t route u next e x (by_short v prio same at) is reply names waits sets =
-    let short : x.reply ≡ answer_of_walk (Short replies.Done) next = reply ∙ ap (λ (r : Route). answer_of_walk r next) same in
-    in_call s t _ (calls.SetPrio v prio) e x at is (ap (can_have (calls.SetPrio v prio) x.kind) short ∙ sets v prio) (names (calls.SetPrio v prio))
+    asks_call s t _ l e x asks is (ap (can_have_waiting x.kind) none ∙ waits) (names (calls.Lock l)) (names (calls.LockInt l))
+walk_call s t route u next e x (by_short call answer same at to_come) is reply names waits short =
+    let ends : x.reply ≡ answer_of_walk (Short answer) next = reply ∙ ap (λ (r : Route). answer_of_walk r next) same in
+    in_call s t _ call e x at is (ap (can_have call x.kind) ends ∙ short call answer to_come) (names call)
 
--- a short walk's link, and a setprio, are answered or not
-walk-can : (v : TaskId) (prio : ℕ) (next : Option Phase) → can_have (calls.SetPrio v prio) kinds.Walk (answer_of_walk (Short replies.Done) next) ≡ true
-walk-can v prio None = refl
-walk-can v prio (Some phase) = refl
+-- of a task that leaves a queue
+left_call : (s : State) (t : TaskId) (l : LockId) (e : Event) → IsLeft s t l e → IsAtCall s t e
+left_call s t l e (by_leave is) =
+    in_call s t phases.Wait (calls.LockInt l) e _ is.at is.event (answered-holds (λ reply. can_have (calls.LockInt l) kinds.Leave reply ≡ true) replies.Interrupted _ refl refl) (refl, refl, refl)
+left_call s t l e (by_cycle path o m rest is round owned) =
+    asks_call s t (phases.Confirm path) l e _ is.at (left-is s t l e (by_cycle path o m rest is round owned)) (answered-holds (λ reply. can_have_waiting kinds.Cycle reply ≡ true) replies.Deadlock _ refl refl)
+    (refl, refl, refl) (refl, refl, refl)
 
-setprio-can : (v : TaskId) (prio : ℕ) (next : Option Phase) → can_have (calls.SetPrio v prio) kinds.SetPrio (answer_of_walk (Short replies.Done) next) ≡ true
-setprio-can v prio None = refl
-setprio-can v prio (Some phase) = refl
-
-its_call : (s : State) (t : TaskId) (e : Event) → IsStaged s → IsNext s t e → IsAtCall s t e
-its_call s t e staged (by_own call answer is) = record { call = call; at = is.at.calling; of = own-of s t call answer e staged is }
-its_call s t e staged (by_acquire l (is_fast is)) = got_call s t l e _ (fast-acquiring s t l is.how) is.event (record { can = refl; names = (refl, refl, refl) }) (record { can = refl; names = (refl, refl, refl) })
-its_call s t e staged (by_acquire l (is_take is)) = got_call s t l e _ (take-acquiring s t l is.how) is.event (record { can = refl; names = (refl, refl, refl) }) (record { can = refl; names = (refl, refl, refl) })
-its_call s t e staged (by_acquire l (is_mark is)) = in_call s t _ _ e _ is.at is.event refl (refl, refl, refl)
-its_call s t e staged (by_acquire l (is_busy is)) = in_call s t _ _ e _ is.at is.event refl (refl, refl, refl)
-its_call s t e staged (by_wait l (is_wait is)) = in_call s t _ _ e _ is.at is.event refl (refl, refl, refl)
-its_call s t e staged (by_wait l (is_again is)) = in_call s t _ _ e _ is.at is.event refl (refl, refl, refl)
-its_call s t e staged (by_release l (is_free is)) = in_call s t _ _ e _ is.at is.event refl (refl, refl, refl)
-its_call s t e staged (by_release l (is_give is)) = in_call s t _ _ e _ is.at is.event refl (refl, refl, refl)
-its_call s t e staged (by_walk route u (is_walk l key is)) = walk_call s t route u _ e _ is.how is.event refl (λ call. (refl, refl, refl)) (λ m. refl) (λ v prio. walk-can v prio _)
-its_call s t e staged (by_walk route u (is_walkend is)) = walk_call s t route u None e _ is.how is.event refl (λ call. (refl, refl, refl)) (λ m. refl) (λ v prio. refl)
-its_call s t e staged (by_setprio u prio is) = in_call s t _ _ e _ is.at is.event (setprio-can u prio _) (refl, refl, refl)
+its_call : (s : State) (made : ℕ) (t : TaskId) (e : Event) → IsLawful s made → IsNext s t e → IsAtCall s t e
+its_call s made t e lawful (by_own call answer is) = record { call = call; at = is.at.calling; of = own-of s t call answer e lawful.stage is }
+its_call s made t e lawful (by_acquire l (is_fast is)) =
+    got_call s t l e _ (fast-acquiring s t l is.how) is.event (record { can = refl; names = (refl, refl, refl) }) (record { can = refl; names = (refl, refl, refl) })
+    (record { can = refl; names = (refl, refl, refl) })
+its_call s made t e lawful (by_acquire l (is_take is)) =
+    got_call s t l e _ (take-acquiring s t l is.how) is.event (record { can = refl; names = (refl, refl, refl) }) (record { can = refl; names = (refl, refl, refl) })
+    (record { can = refl; names = (refl, refl, refl) })
+its_call s made t e lawful (by_acquire l (is_mark is)) = asks_call s t _ l e _ is.at is.event refl (refl, refl, refl) (refl, refl, refl)
+its_call s made t e lawful (by_acquire l (is_busy is)) = in_call s t _ _ e _ is.at is.event refl (refl, refl, refl)
+its_call s made t e lawful (by_wait l (is_wait is)) = asks_call s t _ l e _ is.at is.event refl (refl, refl, refl) (refl, refl, refl)
+its_call s made t e lawful (by_wait l (is_again is)) = asks_call s t _ l e _ is.at is.event refl (refl, refl, refl) (refl, refl, refl)
+its_call s made t e lawful (by_wait l (is_leave is)) = left_call s t l e (leave-left s t l e is)
+its_call s made t e lawful (by_release l (is_free is)) = in_call s t _ _ e _ is.at is.event refl (refl, refl, refl)
+its_call s made t e lawful (by_release l (is_give is)) = in_call s t _ _ e _ is.at is.event refl (refl, refl, refl)
+its_call s made t e lawful (by_walk route u (is_walk l key is)) = walk_call s t route u _ e _ is.how is.event refl (λ call. (refl, refl, refl)) refl (walk-can _)
+its_call s made t e lawful (by_walk route u (is_walkend is)) = walk_call s t route u None e _ is.how is.event refl (λ call. (refl, refl, refl)) refl walkend-can
+its_call s made t e lawful (by_confirm l path (is_restart link is)) = asks_call s t _ l e _ is.at is.event refl (refl, refl, refl) (refl, refl, refl)
+its_call s made t e lawful (by_confirm l path (is_cycle is)) = left_call s t l e (cycle-left s made t l path e lawful is)
+its_call s made t e lawful (by_signal u is) = in_call s t _ _ e _ is.at is.event (signal-can u _) (refl, refl, refl)
+its_call s made t e lawful (by_setprio u prio is) =
+    in_call s t _ _ e _ is.at is.event (answered-holds (λ reply. can_have (calls.SetPrio u prio) kinds.SetPrio reply ≡ true) replies.Done _ refl refl) (refl, refl, refl)
 
 -- ---- an event of a walk
 
@@ -166,8 +216,12 @@ of-walk s e (by_acquire l (is_take is)) walks = absurd (other_kind is_of_walk e 
 of-walk s e (by_acquire l (is_busy is)) walks = absurd (other_kind is_of_walk e _ is.event refl walks)
 of-walk s e (by_wait l (is_wait is)) walks = absurd (other_kind is_of_walk e _ is.event refl walks)
 of-walk s e (by_wait l (is_again is)) walks = absurd (other_kind is_of_walk e _ is.event refl walks)
+of-walk s e (by_wait l (is_leave is)) walks = absurd (other_kind is_of_walk e _ is.event refl walks)
 of-walk s e (by_release l (is_free is)) walks = absurd (other_kind is_of_walk e _ is.event refl walks)
 of-walk s e (by_release l (is_give is)) walks = absurd (other_kind is_of_walk e _ is.event refl walks)
+of-walk s e (by_confirm l path (is_restart link is)) walks = absurd (other_kind is_of_walk e _ is.event refl walks)
+of-walk s e (by_confirm l path (is_cycle is)) walks = absurd (other_kind is_of_walk e _ is.event refl walks)
+of-walk s e (by_signal u is) walks = absurd (other_kind is_of_walk e _ is.event refl walks)
 of-walk s e (by_setprio u prio is) walks = absurd (other_kind is_of_walk e _ is.event refl walks)
 
 -- ---- what an event leaves of a thread's count
@@ -253,7 +307,7 @@ made-after s made (e ∷ events) t lawful run =
     by_test (nat_eq e.task.0 t.0) refl (made-after (state_after s e) (suc made) events t (run-lawful s made e events lawful run) run.1)
   where
     here : IsAtCall s e.task e
-    here = its_call s e.task e lawful.stage (run-next s made e events lawful run)
+    here = its_call s made e.task e lawful (run-next s made e events lawful run)
 
     own : Made (events_of t events) (thread_part (state_after s e) e.task) (thread_part (after (state_after s e) events) t) → Made (e ∷ events_of t events) (thread_part s e.task) (thread_part (after (state_after s e) events) t)
     own rest = made-own e here.call (events_of t events) _ _ _ here.at here.of (own-counts s e (next-task s e.task e run.0)) rest

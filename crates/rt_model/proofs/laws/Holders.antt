@@ -16,11 +16,11 @@ use Rattle.rt_model.specs.Run.{after, IsRun}
 use Rattle.rt_model.specs.laws.Lawful.{IsLawful}
 use Rattle.rt_model.specs.laws.Owners.{owned_by}
 use Rattle.rt_model.specs.laws.Holders.{acquires, releases, owner_after, is_on, holders_of, HoldersLaw}
-use Rattle.rt_model.proofs.NextEvents.{IsNext, by_own, by_acquire, by_wait, by_release, by_walk, by_setprio}
+use Rattle.rt_model.proofs.NextEvents.{IsNext, by_own, by_acquire, by_wait, by_release, by_walk, by_confirm, by_signal, by_setprio}
 use Rattle.rt_model.proofs.events.Acquire.{is_fast, is_mark, is_take, is_busy}
-use Rattle.rt_model.proofs.events.Wait.{is_wait, is_again}
+use Rattle.rt_model.proofs.events.Wait.{is_wait, is_again, is_leave}
 use Rattle.rt_model.proofs.events.Release.{is_free, is_give}
-use Rattle.rt_model.proofs.events.Walk.{is_walk, is_walkend}
+use Rattle.rt_model.proofs.events.Walk.{is_walk, is_walkend, is_restart, is_cycle}
 use Rattle.rt_model.proofs.Links.{requeued-owner}
 use Rattle.rt_model.proofs.PartsAfter.{read-update, read-update_other, kept-at}
 use Rattle.rt_model.proofs.Numbers.{same_lock, same_task}
@@ -101,10 +101,14 @@ acquires-free s t e l (by_own call answer is) named gets = absurd (other_kind ac
 acquires-free s t e l (by_acquire m (is_busy is)) named gets = absurd (other_kind acquires e _ is.event refl gets)
 acquires-free s t e l (by_wait m (is_wait is)) named gets = absurd (other_kind acquires e _ is.event refl gets)
 acquires-free s t e l (by_wait m (is_again is)) named gets = absurd (other_kind acquires e _ is.event refl gets)
+acquires-free s t e l (by_wait m (is_leave is)) named gets = absurd (other_kind acquires e _ is.event refl gets)
 acquires-free s t e l (by_release m (is_free is)) named gets = absurd (other_kind acquires e _ is.event refl gets)
 acquires-free s t e l (by_release m (is_give is)) named gets = absurd (other_kind acquires e _ is.event refl gets)
 acquires-free s t e l (by_walk route u (is_walk m key is)) named gets = absurd (other_kind acquires e _ is.event refl gets)
 acquires-free s t e l (by_walk route u (is_walkend is)) named gets = absurd (other_kind acquires e _ is.event refl gets)
+acquires-free s t e l (by_confirm k path (is_restart link is)) named gets = absurd (other_kind acquires e _ is.event refl gets)
+acquires-free s t e l (by_confirm k path (is_cycle is)) named gets = absurd (other_kind acquires e _ is.event refl gets)
+acquires-free s t e l (by_signal u is) named gets = absurd (other_kind acquires e _ is.event refl gets)
 acquires-free s t e l (by_setprio u prio is) named gets = absurd (other_kind acquires e _ is.event refl gets)
 
 owned_by-some : (owner : Option TaskId) (t : TaskId) → owned_by owner t ≡ true → owner ≡ Some t
@@ -126,8 +130,12 @@ releases-own s made t e l lawful (by_acquire m (is_mark is)) named gone = absurd
 releases-own s made t e l lawful (by_acquire m (is_take is)) named gone = absurd (other_kind releases e _ is.event refl gone)
 releases-own s made t e l lawful (by_wait m (is_wait is)) named gone = absurd (other_kind releases e _ is.event refl gone)
 releases-own s made t e l lawful (by_wait m (is_again is)) named gone = absurd (other_kind releases e _ is.event refl gone)
+releases-own s made t e l lawful (by_wait m (is_leave is)) named gone = absurd (other_kind releases e _ is.event refl gone)
 releases-own s made t e l lawful (by_walk route u (is_walk m key is)) named gone = absurd (other_kind releases e _ is.event refl gone)
 releases-own s made t e l lawful (by_walk route u (is_walkend is)) named gone = absurd (other_kind releases e _ is.event refl gone)
+releases-own s made t e l lawful (by_confirm k path (is_restart link is)) named gone = absurd (other_kind releases e _ is.event refl gone)
+releases-own s made t e l lawful (by_confirm k path (is_cycle is)) named gone = absurd (other_kind releases e _ is.event refl gone)
+releases-own s made t e l lawful (by_signal u is) named gone = absurd (other_kind releases e _ is.event refl gone)
 releases-own s made t e l lawful (by_setprio u prio is) named gone = absurd (other_kind releases e _ is.event refl gone)
 
 -- ---- over a run, from a state in which nobody owns a lock

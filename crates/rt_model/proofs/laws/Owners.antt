@@ -22,16 +22,18 @@ use Rattle.rt_model.specs.steps.Thread.{with_hold, holds_after}
 use Rattle.rt_model.specs.StateAfter.{effect_in, thread_after, state_after}
 use Rattle.rt_model.specs.Stage.{IsServed, IsPhaseOf}
 use Rattle.rt_model.specs.steps.Chain.{followed, goes_on}
-use Rattle.rt_model.specs.steps.Task.{with_own}
+use Rattle.rt_model.specs.steps.Task.{with_own, signal_answer}
 use Rattle.rt_model.specs.laws.Owners.{OwnersLaw, owned_by}
 use Rattle.rt_model.specs.laws.Lawful.{IsLawful}
+use Rattle.rt_model.proofs.Leaves.{IsLeft, by_leave, by_cycle, left_answer, left_kind, left_made, left-is, left-there, left-fits, left-thread, leave-left, cycle-left}
 use Rattle.rt_model.proofs.Links.{walked_thread, link-thread, end-thread, setprio-thread}
-use Rattle.rt_model.proofs.NextEvents.{IsNext, by_own, by_acquire, by_wait, by_release, by_walk, by_setprio}
+use Rattle.rt_model.proofs.NextEvents.{IsNext, by_own, by_acquire, by_wait, by_release, by_walk, by_confirm, by_signal, by_setprio}
 use Rattle.rt_model.proofs.Owned.{changes_owner, owners-kept}
 use Rattle.rt_model.proofs.Routes.{walk-fits, setprio-fits, SameSort, SameSort-itself, SameSort-followed, walked-holds}
+use Rattle.rt_model.proofs.ToCome.{to_come-holds}
 use Rattle.rt_model.proofs.events.Acquire.{is_fast, is_mark, is_take, is_busy, IsAcquiring, fast-acquiring, take-acquiring, got-holds}
-use Rattle.rt_model.proofs.events.Walk.{is_walk, is_walkend}
-use Rattle.rt_model.proofs.events.Wait.{is_wait, is_again}
+use Rattle.rt_model.proofs.events.Walk.{is_walk, is_walkend, is_restart, is_cycle}
+use Rattle.rt_model.proofs.events.Wait.{is_wait, is_again, is_leave}
 use Rattle.rt_model.proofs.events.Release.{is_free, is_give}
 use Rattle.rt_model.proofs.Numbers.{number_itself, same_lock, nobodys, one_owner}
 use Rattle.rt_model.proofs.Queues.{unowned-can_take}
@@ -67,9 +69,12 @@ refused_holds : (m n : ℕ) (thread : ThreadPart) (call : Call) (answer : Reply)
     → holds_after thread (Some call) answer ≡ thread.holds
 refused_holds m n thread (calls.Lock l) replies.Got kind nested held migration served is = absurd (never_got nested held is)
 refused_holds m n thread (calls.Lock l) _ kind nested held migration served is = refl
+refused_holds m n thread (calls.LockInt l) replies.Got kind nested held migration served is = absurd (never_got nested held is)
+refused_holds m n thread (calls.LockInt l) _ kind nested held migration served is = refl
 refused_holds m n thread (calls.TryLock l) answer kind nested held migration served is = cc
 refused_holds m n thread (calls.Unlock l) replies.Done kind nested held migration served is = absurd (never_done held is)
 refused_holds m n thread (calls.Unlock l) _ kind nested held migration served is = refl
+refused_holds m n thread (calls.Signal u) answer kind nested held migration served is = refl
 refused_holds m n thread (calls.SetPrio u prio) answer kind nested held migration served is = refl
 refused_holds m n thread _ answer kind nested held migration served is = absurd served
 
@@ -79,15 +84,15 @@ holds_at thread call answer is = ap (λ (c : Option Call). holds_after thread c 
 
 -- nor does the answer of a short walk
 short_holds : (thread : ThreadPart) (u : TaskId) (answer : Reply) (call : Option Call) → IsPhaseOf (phases.Walk u (Short answer)) call → holds_after thread call answer ≡ thread.holds
-short_holds thread u answer (Some (calls.SetPrio v prio)) fits = refl
-short_holds thread u answer _ fits = absurd fits
+short_holds thread u answer (Some call) fits = to_come-holds (λ c a. holds_after thread (Some c) a ≡ thread.holds) call answer fits (λ l. refl) (λ l. refl) (λ l. refl) (λ v prio. refl)
+short_holds thread u answer None fits = absurd fits
 
 -- so a walk leaves what its thread holds
-walk_holds : (thread : ThreadPart) (u : TaskId) (route onward : Route) (owner : Option TaskId) (task : TaskPart) → SameSort route onward → IsPhaseOf (phases.Walk u route) (call_of thread)
-    → (walked_thread thread route (goes_on onward owner task)).holds ≡ thread.holds
-walk_holds thread u route onward owner task sort =
-    walked-holds (λ r th. IsPhaseOf (phases.Walk u r) (call_of thread) → th.holds ≡ thread.holds) thread route onward owner task sort
-    (λ path fits. refl) (λ path rest o fits. refl) (λ answer. short_holds (record thread { phase = phases.Start }) u answer (call_of thread)) (λ answer o fits. refl)
+walk_holds : (thread : ThreadPart) (t u : TaskId) (route onward : Route) (owner : Option TaskId) (task : TaskPart) → SameSort route onward → IsPhaseOf (phases.Walk u route) (call_of thread)
+    → (walked_thread thread route (goes_on t onward owner task)).holds ≡ thread.holds
+walk_holds thread t u route onward owner task sort =
+    walked-holds (λ r th. IsPhaseOf (phases.Walk u r) (call_of thread) → th.holds ≡ thread.holds) thread t route onward owner task sort
+    (λ path fits. refl) (λ path rest fits. refl) (λ path rest o fits. refl) (λ answer. short_holds (record thread { phase = phases.Start }) u answer (call_of thread)) (λ answer o fits. refl)
 
 -- ---- owners
 
@@ -151,20 +156,34 @@ OwnersLaw-next s made t e lawful next = by_kind next
     taken : (l : LockId) → IsAcquiring s t l → holds_after (thread_part s t) (call_of (thread_part s t)) replies.Got ≡ with_hold (thread_part s t) l (owned_by (Some t) t)
     taken l acquiring = got-holds s t l acquiring ∙ ap (with_hold (thread_part s t) l) (sym (number_itself t.0))
 
+    left-keeps : (l : LockId) (is : IsLeft s t l e) → changes_owner (left_kind is) ≡ false
+    left-keeps l (by_leave is) = refl
+    left-keeps l (by_cycle path o m rest is round owned) = refl
+
     -- a walk, whose thread is left so
     walked : (x : Event) (u : TaskId) (route onward : Route) (owner : Option TaskId) (task : TaskPart) → e ≡ x → x.task.0 < length s.threads
-        → thread_after (shared s) (thread_part s x.task) x ≡ walked_thread (thread_part s x.task) route (goes_on onward owner task) → SameSort route onward → IsPhaseOf (phases.Walk u route) (call_of (thread_part s x.task))
+        → thread_after (shared s) (thread_part s x.task) x ≡ walked_thread (thread_part s x.task) route (goes_on t onward owner task) → SameSort route onward → IsPhaseOf (phases.Walk u route) (call_of (thread_part s x.task))
         → changes_owner x.kind ≡ false → OwnersLaw (state_after s e)
-    walked x u route onward owner task is lt left sort fits = keep_owners s made e x lawful is lt (ap (λ (th : ThreadPart). th.holds) left ∙ walk_holds (thread_part s x.task) u route onward owner task sort fits)
+    walked x u route onward owner task is lt left sort fits = keep_owners s made e x lawful is lt (ap (λ (th : ThreadPart). th.holds) left ∙ walk_holds (thread_part s x.task) t u route onward owner task sort fits)
+
+    -- one that leaves a queue
+    leaves : (l : LockId) → IsLeft s t l e → OwnersLaw (state_after s e)
+    leaves l is =
+        walked (left_made s t l e is) t (Short (left_answer is)) (Short (left_answer is)) (owner_part s l).owner _ (left-is s t l e is) (left-there s made t l e lawful is) (left-thread s made t l e lawful is)
+        (SameSort-itself (Short (left_answer is))) (left-fits s made t l e lawful is t) (left-keeps l is)
 
     by_kind : IsNext s t e → OwnersLaw (state_after s e)
     by_kind (by_own call answer is) =
         keep_owners s made e _ lawful is.event is.at.task
         (holds_at (thread_part s t) call answer is.at.calling ∙ refused_holds (length s.threads) (length s.locks) (thread_part s t) call answer _ _ _ _ is.at.served is.why) refl
-    by_kind (by_acquire l (is_mark is)) = keep_owners s made e _ lawful is.event is.at.task refl refl
+    by_kind (by_acquire l (is_mark is)) = keep_owners s made e _ lawful is.event is.at.at.task refl refl
     by_kind (by_acquire l (is_busy is)) = keep_owners s made e _ lawful is.event is.at.task (holds_at (thread_part s t) (calls.TryLock l) replies.Busy is.at.calling) refl
-    by_kind (by_wait l (is_wait is)) = keep_owners s made e _ lawful is.event is.at.task refl refl
-    by_kind (by_wait l (is_again is)) = keep_owners s made e _ lawful is.event is.at.task refl refl
+    by_kind (by_wait l (is_wait is)) = keep_owners s made e _ lawful is.event is.at.at.task refl refl
+    by_kind (by_wait l (is_again is)) = keep_owners s made e _ lawful is.event is.at.at.task refl refl
+    by_kind (by_wait l (is_leave is)) = leaves l (leave-left s t l e is)
+    by_kind (by_confirm l path (is_cycle is)) = leaves l (cycle-left s made t l path e lawful is)
+    by_kind (by_confirm l path (is_restart link is)) = keep_owners s made e _ lawful is.event is.at.at.task refl refl
+    by_kind (by_signal u is) = keep_owners s made e _ lawful is.event is.at.task (holds_at (thread_part s t) (calls.Signal u) (signal_answer (task_part s u)) is.at.calling) refl
     by_kind (by_acquire l (is_fast is)) = change_owner s made e _ lawful is.event is.task l (Some t) refl is.lock (taken l (fast-acquiring s t l is.how)) refl (nobodys_before l is.owner)
     by_kind (by_acquire l (is_take is)) =
         change_owner s made e _ lawful is.event is.task l (Some t) refl is.lock (taken l (take-acquiring s t l is.how)) refl (nobodys_before l (unowned-can_take t (kind_of (thread_part s t) l) (owner_part s l) (task_part s t) is.can))

@@ -24,17 +24,19 @@ use Rattle.rt_model.specs.laws.Lawful.{IsLawful}
 use Rattle.rt_model.specs.laws.Owners.{owned_by}
 use Rattle.rt_model.specs.laws.Queued.{QueuedLaw, present_lock, awaited_in, asked_in}
 use Rattle.rt_model.proofs.Blocked.{moves, changes_own, blocking-other, blocking-kept, blocked-kept, take-blocked, wait-blocked}
+use Rattle.rt_model.proofs.Calling.{asks-present}
+use Rattle.rt_model.proofs.Leaves.{IsLeft, left_answer, left_made, left-is, left-there, left-thread, left-own_blocked, leave-left, cycle-left}
 use Rattle.rt_model.proofs.Links.{walked_thread, requeued-owner, link-thread, end-thread, setprio-thread}
 use Rattle.rt_model.proofs.Lists.{if_some}
-use Rattle.rt_model.proofs.NextEvents.{IsNext, by_own, by_acquire, by_wait, by_release, by_walk, by_setprio, task-IsNext}
+use Rattle.rt_model.proofs.NextEvents.{IsNext, by_own, by_acquire, by_wait, by_release, by_walk, by_confirm, by_signal, by_setprio, task-IsNext}
 use Rattle.rt_model.proofs.Owned.{changes_owner, owners-kept}
 use Rattle.rt_model.proofs.events.Acquire.{AcquiresIn, by_lock, by_trylock, is_fast, is_mark, is_take, is_busy}
-use Rattle.rt_model.proofs.events.Wait.{is_wait, is_again}
+use Rattle.rt_model.proofs.events.Wait.{is_wait, is_again, is_leave}
 use Rattle.rt_model.proofs.events.Release.{is_free, is_give}
-use Rattle.rt_model.proofs.events.Walk.{is_walk, is_walkend}
+use Rattle.rt_model.proofs.events.Walk.{is_walk, is_walkend, is_restart, is_cycle}
 use Rattle.rt_model.proofs.Numbers.{at_each_task}
 use Rattle.rt_model.proofs.PartsAfter.{lock-kept, thread-own, thread-other}
-use Rattle.rt_model.proofs.Routes.{call-lock, SameSort, SameSort-itself, SameSort-followed, walked-holds}
+use Rattle.rt_model.proofs.Routes.{SameSort, SameSort-itself, SameSort-followed, walked-holds}
 use Rattle.rt_model.proofs.Waiters.{blocking, start-blocked, slow-unowned, walk-phase}
 
 -- ---- the law at one task
@@ -102,12 +104,17 @@ queued_other s e u law other =
 
 -- ---- of the event's task
 
+-- what a thread in this phase waits for
+awaited_as : (thread : ThreadPart) (phase : Phase) → thread.phase ≡ phase → awaited_in phase (present_lock thread) ≡ awaited_in thread.phase (present_lock thread)
+awaited_as thread phase is = sym (ap (λ (p : Phase). awaited_in p (present_lock thread)) is)
+
 -- a walk that goes on waits for the same as before, and one that ends waits as well, or answers
-walk_wants : (thread : ThreadPart) (u : TaskId) (route onward : Route) (owner : Option TaskId) (task : TaskPart) → SameSort route onward
-    → Wants (awaited_in (phases.Walk u route) (present_lock thread)) None (walked_thread thread route (goes_on onward owner task))
-walk_wants thread u route onward owner task sort =
-    walked-holds (λ r th. Wants (awaited_in (phases.Walk u r) (present_lock thread)) None th) thread route onward owner task sort
-    (λ path. record { waits = refl; asks = refl }) (λ path rest o. record { waits = refl; asks = refl }) (λ answer. record { waits = refl; asks = refl }) (λ answer o. record { waits = refl; asks = refl })
+walk_wants : (thread : ThreadPart) (t u : TaskId) (route onward : Route) (owner : Option TaskId) (task : TaskPart) → SameSort route onward
+    → Wants (awaited_in (phases.Walk u route) (present_lock thread)) None (walked_thread thread route (goes_on t onward owner task))
+walk_wants thread t u route onward owner task sort =
+    walked-holds (λ r th. Wants (awaited_in (phases.Walk u r) (present_lock thread)) None th) thread t route onward owner task sort
+    (λ path. record { waits = refl; asks = refl }) (λ path rest. record { waits = refl; asks = refl }) (λ path rest o. record { waits = refl; asks = refl })
+    (λ answer. record { waits = refl; asks = refl }) (λ answer o. record { waits = refl; asks = refl })
 
 -- a task that has been queued waits
 wait_wants : (thread : ThreadPart) (t : TaskId) (l : LockId) (owner : Option TaskId) (blocked : Bool) → present_lock thread ≡ Some l → Wants (Some l) None (record thread { phase = phase_after_wait t (Some l) owner blocked })
@@ -120,7 +127,7 @@ start_wants : (thread : ThreadPart) → thread.phase ≡ phases.Start → Wants 
 start_wants thread start = record { waits = ap (λ (p : Phase). awaited_in p (present_lock thread)) start; asks = ap (λ (p : Phase). asked_in p (present_lock thread)) start }
 
 acquires-blocked : (s : State) (made : ℕ) (t : TaskId) (l : LockId) → IsLawful s made → AcquiresIn s t l → (task_part s t).blocked ≡ None
-acquires-blocked s made t l lawful (by_lock at unheld) = start-blocked s made t lawful (calls.Lock l) at
+acquires-blocked s made t l lawful (by_lock asks unheld) = start-blocked s made t lawful asks.call asks.at
 acquires-blocked s made t l lawful (by_trylock at) = start-blocked s made t lawful (calls.TryLock l) at
 
 module _ (s : State) (made : ℕ) (e x : Event) (lawful : IsLawful s made) (is : e ≡ x) (there : x.task.0 < length s.threads) where
@@ -142,15 +149,24 @@ module _ (s : State) (made : ℕ) (e x : Event) (lawful : IsLawful s made) (is :
   unowned kept m was = ap (λ (o : Option TaskId). owned_by o x.task) (owners-kept s e x m is kept) ∙ was
 
   -- a walk begins, goes on, or ends
-  walks : (u : TaskId) (route onward : Route) (owner : Option TaskId) (task : TaskPart) → thread_after (shared s) (thread_part s x.task) x ≡ walked_thread (thread_part s x.task) route (goes_on onward owner task) → SameSort route onward
+  walks : (t u : TaskId) (route onward : Route) (owner : Option TaskId) (task : TaskPart)
+      → thread_after (shared s) (thread_part s x.task) x ≡ walked_thread (thread_part s x.task) route (goes_on t onward owner task) → SameSort route onward
       → awaited_in (phases.Walk u route) (present_lock (thread_part s x.task)) ≡ awaited_in (thread_part s x.task).phase (present_lock (thread_part s x.task)) → changes_own x.kind ≡ false → changes_owner x.kind ≡ false
       → IsQueuedAt (state_after s e) x.task
-  walks u route onward owner task left sort same unmoved kept =
-      let wants = walk_wants (thread_part s x.task) u route onward owner task sort in
+  walks t u route onward owner task left sort same unmoved kept =
+      let wants = walk_wants (thread_part s x.task) t u route onward owner task sort in
       stays s (state_after s e) x.task None
       (subst (λ (o : Option LockId). Wants o None (thread_part (state_after s e) x.task)) same
       (subst (Wants (awaited_in (phases.Walk u route) (present_lock (thread_part s x.task))) None) (sym (thread-own s e x is there ∙ left)) wants))
       (blocking-kept s e x x.task is unmoved) (unowned kept) tt lawful.queued
+
+-- of one that leaves a queue
+queued_left : (s : State) (made : ℕ) (t : TaskId) (l : LockId) (e : Event) → IsLawful s made → IsLeft s t l e → IsQueuedAt (state_after s e) t
+queued_left s made t l e lawful is =
+    own s made e (left_made s t l e is) lawful (left-is s t l e is) (left-there s made t l e lawful is) None None
+    (subst (Wants None None) (sym (left-thread s made t l e lawful is))
+    (walk_wants (thread_part s t) t t (Short (left_answer is)) (Short (left_answer is)) (owner_part s l).owner _ (SameSort-itself (Short (left_answer is)))))
+    (ap blocking (left-own_blocked s made t l e lawful is)) tt tt
 
 queued_own : (s : State) (made : ℕ) (t : TaskId) (e : Event) → IsLawful s made → IsNext s t e → IsQueuedAt (state_after s e) t
 queued_own s made t e lawful (by_own call answer is) = answers_at_once s made e _ lawful is.event is.at.task refl refl (start-blocked s made t lawful call is.at)
@@ -160,22 +176,29 @@ queued_own s made t e lawful (by_release l (is_free is)) = answers_at_once s mad
 queued_own s made t e lawful (by_release l (is_give is)) = answers_at_once s made e _ lawful is.event is.at.task refl refl (start-blocked s made t lawful (calls.Unlock l) is.at)
 queued_own s made t e lawful (by_acquire l (is_take is)) = answers s made e _ lawful is.event is.task refl (take-blocked s t e l lawful.shape is)
 queued_own s made t e lawful (by_acquire l (is_mark is)) =
-    own s made e _ lawful is.event is.at.task None (Some l) (record { waits = refl; asks = call-lock s t phases.Start l is.at })
-    (ap blocking (blocked-kept s e _ t is.event refl ∙ start-blocked s made t lawful (calls.Lock l) is.at)) tt (unowned s made e _ lawful is.event is.at.task refl l (sym (lawful.owners l t) ∙ is.unheld))
+    own s made e _ lawful is.event is.at.at.task None (Some l) (record { waits = refl; asks = asks-present s t phases.Start l is.at })
+    (ap blocking (blocked-kept s e _ t is.event refl ∙ start-blocked s made t lawful is.at.call is.at.at)) tt (unowned s made e _ lawful is.event is.at.at.task refl l (sym (lawful.owners l t) ∙ is.unheld))
 queued_own s made t e lawful (by_wait l (is_wait is)) =
-    own s made e _ lawful is.event is.at.task (Some l) None (wait_wants (thread_part s t) t l (owner_part s l).owner _ (call-lock s t phases.Slow l is.at)) (ap blocking (wait-blocked s t e l lawful.shape is))
-    (unowned s made e _ lawful is.event is.at.task refl l (slow-unowned s made t lawful l is.at)) tt
+    own s made e _ lawful is.event is.at.at.task (Some l) None (wait_wants (thread_part s t) t l (owner_part s l).owner _ (asks-present s t phases.Slow l is.at))
+    (ap blocking (wait-blocked s t e l lawful.shape is))
+    (unowned s made e _ lawful is.event is.at.at.task refl l (slow-unowned s made t lawful l is.at)) tt
 queued_own s made t e lawful (by_wait l (is_again is)) =
-    stays_as s (state_after s e) t (thread-own s e _ is.event is.at.task) (blocking-kept s e _ t is.event refl) (unowned s made e _ lawful is.event is.at.task refl) lawful.queued
+    stays_as s (state_after s e) t (thread-own s e _ is.event is.at.at.task) (blocking-kept s e _ t is.event refl) (unowned s made e _ lawful is.event is.at.at.task refl) lawful.queued
+queued_own s made t e lawful (by_wait l (is_leave is)) = queued_left s made t l e lawful (leave-left s t l e is)
+queued_own s made t e lawful (by_confirm l path (is_cycle is)) = queued_left s made t l e lawful (cycle-left s made t l path e lawful is)
+queued_own s made t e lawful (by_confirm l path (is_restart link is)) =
+    stays s (state_after s e) t None (subst (Wants _ None) (sym (thread-own s e _ is.event is.at.at.task)) (record { waits = awaited_as (thread_part s t) (phases.Confirm path) is.at.at.phased; asks = refl }))
+    (blocking-kept s e _ t is.event refl) (unowned s made e _ lawful is.event is.at.at.task refl) tt lawful.queued
+queued_own s made t e lawful (by_signal u is) = answers_at_once s made e _ lawful is.event is.at.task refl refl (start-blocked s made t lawful (calls.Signal u) is.at)
 queued_own s made t e lawful (by_walk route u (is_walk l key is)) =
-    walks s made e _ lawful is.event is.task u route (followed u l route) (owner_part s l).owner _ (link-thread s made t route u l key e lawful is) (SameSort-followed u l route)
-    (sym (ap (λ (p : Phase). awaited_in p (present_lock (thread_part s t))) (walk-phase s t route u is.how))) refl refl
+    walks s made e _ lawful is.event is.task t u route (followed u l route) (owner_part s l).owner _ (link-thread s made t route u l key e lawful is) (SameSort-followed u l route)
+    (awaited_as (thread_part s t) (phases.Walk u route) (walk-phase s t route u is.how)) refl refl
 queued_own s made t e lawful (by_walk route u (is_walkend is)) =
-    walks s made e _ lawful is.event is.task u route route None (task_part s u) (end-thread s t route u e is) (SameSort-itself route)
-    (sym (ap (λ (p : Phase). awaited_in p (present_lock (thread_part s t))) (walk-phase s t route u is.how))) refl refl
+    walks s made e _ lawful is.event is.task t u route route None (task_part s u) (end-thread s t route u e is) (SameSort-itself route)
+    (awaited_as (thread_part s t) (phases.Walk u route) (walk-phase s t route u is.how)) refl refl
 queued_own s made t e lawful (by_setprio u prio is) =
-    walks s made e _ lawful is.event is.at.task u (Short Done) (Short Done) (Some u) (with_own prio (task_part s u)) (setprio-thread s made t u prio e lawful is) (SameSort-itself (Short Done))
-    (sym (ap (λ (p : Phase). awaited_in p (present_lock (thread_part s t))) is.at.phased)) refl refl
+    walks s made e _ lawful is.event is.at.task t u (Short Done) (Short Done) (Some u) (with_own prio (task_part s u)) (setprio-thread s made t u prio e lawful is) (SameSort-itself (Short Done))
+    (awaited_as (thread_part s t) phases.Start is.at.phased) refl refl
 
 -- ---- the law
 

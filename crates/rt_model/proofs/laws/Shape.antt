@@ -18,6 +18,7 @@ use Rattle.rt_model.specs.declared.row.Row.{Row}
 use Rattle.rt_model.specs.Parts.{OwnerPart, TaskPart, ThreadPart, call_of, effective_of, kind_named}
 use Rattle.rt_model.specs.Rows.{is_of}
 use Rattle.rt_model.specs.State.{State, Shared, shared, thread_part, kinds_in}
+use Rattle.rt_model.specs.steps.Lock.{left_by}
 use Rattle.rt_model.specs.steps.Task.{rest_of}
 use Rattle.rt_model.specs.steps.Chain.{requeued_where_old}
 use Rattle.rt_model.specs.Effect.{Touched, Around, Effect, around}
@@ -28,7 +29,7 @@ use Rattle.rt_model.specs.Stage.{IsServed, IsStaged}
 use Rattle.rt_model.specs.laws.Shape.{IsShaped, IsOf, IsWithin, SameSize}
 use Rattle.rt_model.proofs.Lists.{length-update, All-update, All-default, length-at_lock, length-at_task, All-at_lock, All-at_task}
 use Rattle.rt_model.proofs.Queues.{All-insert_row}
-use Rattle.rt_model.proofs.CellStepLemmas.{leave_queue-like, blocked_on-like, lock_woken-like, length-with_top, length-where_changed}
+use Rattle.rt_model.proofs.CellStepLemmas.{leave_queue-like, interrupted-like, blocked_on-like, woken_by-like, lock_woken-like, length-with_top, length-where_changed}
 use Rattle.rt_model.proofs.Links.{requeued-owner}
 use Rattle.rt_model.proofs.Named.{requeued_within}
 use Rattle.rt_model.proofs.PartsAfter.{OthersKeep, thread-phase}
@@ -67,9 +68,14 @@ requeued-rows : (n : ℕ) (u : Option TaskId) (task : TaskPart) (lock : OwnerPar
 requeued-rows n None task lock lt all = all
 requeued-rows n (Some u) task lock lt all = requeued_within n u task lock lt all
 
+left-rows : (n : ℕ) (t : TaskId) (lock : OwnerPart) → RowsIn n lock → RowsIn n (left_by t lock)
+left-rows n t lock all = All-filter (λ row. not (is_of t row)) (λ (row : Row). row.who < n) lock.rows all
+
 rows-left : (n : ℕ) (kind : EventKind) (e : Event) (th : ThreadPart) (found : Around) → e.task.0 < n → IfSome e.other (λ t. t.0 < n) → (lock : OwnerPart) → RowsIn n lock → RowsIn n ((effect kind e th found).lock lock)
 rows-left n kinds.Walk e th found lt other lock all = requeued-rows n e.other found.other lock other all
-rows-left n kinds.Take e th found lt other lock all = All-filter (λ row. not (is_of e.task row)) (λ (row : Row). row.who < n) lock.rows all
+rows-left n kinds.Take e th found lt other lock all = left-rows n e.task lock all
+rows-left n kinds.Leave e th found lt other lock all = left-rows n e.task lock all
+rows-left n kinds.Cycle e th found lt other lock all = left-rows n e.task lock all
 rows-left n kinds.Wait e th found lt other lock all = All-insert_row (λ (row : Row). row.who < n) (record { key = effective_of found.own; ticket = lock.ticket; who = e.task.0 }) lock.rows lt all
 rows-left n _ e th found lt other lock all = all
 
@@ -77,12 +83,17 @@ rows-left n _ e th found lt other lock all = all
 
 fits-own : (n : ℕ) (kind : EventKind) (e : Event) (th : ThreadPart) (found : Around) (lock : OwnerPart) (task : TaskPart) → KeptFits n task → KeptFits n ((effect kind e th found).own lock task)
 fits-own n kinds.Take e th found lock task fits = length-with_top e.lock _ _ ∙ (ap length (leave_queue-like (spins (kind_named th e.lock)) task).kept ∙ fits)
+fits-own n kinds.Leave e th found lock task fits = ap length (interrupted-like (spins (kind_named th e.lock)) task).kept ∙ fits
+fits-own n kinds.Cycle e th found lock task fits = ap length (leave_queue-like (spins (kind_named th e.lock)) task).kept ∙ fits
 fits-own n kinds.Wait e th found lock task fits = ap length (blocked_on-like e.lock (rest_of (kind_named th e.lock) (call_of th)) task).kept ∙ fits
 fits-own n kinds.Give e th found lock task fits = length-with_top e.lock None task ∙ fits
 fits-own n _ e th found lock task fits = fits
 
 fits-others : (n : ℕ) (kind : EventKind) (e : Event) (th : ThreadPart) (found : Around) (lock : OwnerPart) → OthersKeep (KeptFits n) (effect kind e th found) lock
 fits-others n kinds.Wait e th found lock = record { owner = λ task fits. length-with_top e.lock _ task ∙ fits; other = λ task fits. fits; woken = λ task fits. fits }
+fits-others n kinds.Leave e th found lock = record { owner = λ task fits. length-with_top e.lock _ task ∙ fits; other = λ task fits. fits; woken = λ task fits. fits }
+fits-others n kinds.Cycle e th found lock = record { owner = λ task fits. length-with_top e.lock _ task ∙ fits; other = λ task fits. fits; woken = λ task fits. fits }
+fits-others n kinds.Wake e th found lock = record { owner = λ task fits. fits; other = λ task fits. ap length (woken_by-like e.value task).like.kept ∙ fits; woken = λ task fits. fits }
 fits-others n kinds.Give e th found lock = record { owner = λ task fits. fits; other = λ task fits. fits; woken = λ task fits. ap length (lock_woken-like (spins (kind_named th e.lock)) task).like.kept ∙ fits }
 fits-others n kinds.Walk e th found lock = record {
   owner = λ task fits. length-where_changed e.lock found.lock.rows lock.rows task ∙ fits;
@@ -102,6 +113,7 @@ pub record KeepsThread (before after : ThreadPart) : Type 0 where
 
 length-holds_after : (thread : ThreadPart) (call : Option Call) (answer : Reply) → length (holds_after thread call answer) ≡ length thread.holds
 length-holds_after thread (Some (calls.Lock l)) replies.Got = simp length-set
+length-holds_after thread (Some (calls.LockInt l)) replies.Got = simp length-set
 length-holds_after thread (Some (calls.TryLock l)) replies.Got = simp length-set
 length-holds_after thread (Some (calls.Unlock l)) replies.Done = simp length-set
 length-holds_after thread call answer = refl

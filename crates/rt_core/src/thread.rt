@@ -1,6 +1,5 @@
-ghost use Rattle.std.specs.Prelude.{◌≡◌, ◌≤◌, ◌<◌, length, IfOk, IfSome, IsSome, All, Option, None, Some, option_map};
+ghost use Rattle.std.specs.Prelude.{◌≡◌, ◌≤◌, ◌<◌, length, IfOk, IfSome, IsSome, All, Option, None, Some};
 ghost use Rattle.rt_base.specs.declared.id.TaskId.{TaskId};
-ghost use Rattle.rt_base.specs.declared.reply.Reply.{Reply};
 ghost use Rattle.rt_model.specs.declared.phase.Phase.TheVariants.{Walk};
 ghost use Rattle.rt_model.specs.declared.phase.Route.TheVariants.{Full, Short};
 ghost use Rattle.rt_model.specs.Parts.{TaskPart, call_of, kind_of};

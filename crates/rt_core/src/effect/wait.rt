@@ -1,5 +1,5 @@
 // Waits: wait, again, leave.
-ghost use Rattle.std.specs.Prelude.{◌≡◌, ◌<◌, ◌≤◌, ◌^◌, ◌∷◌, [], length, is_some, None, Some, IfSome};
+ghost use Rattle.std.specs.Prelude.{◌≡◌, ◌<◌, ◌^◌, ◌∷◌, [], length, is_some, None, Some, IfSome};
 ghost use Rattle.rt_base.specs.Kind.{spins};
 ghost use Rattle.rt_base.specs.declared.reply.Reply.TheVariants.{Interrupted};
 ghost use Rattle.rt_model.specs.declared.phase.Route.TheVariants.{Short};

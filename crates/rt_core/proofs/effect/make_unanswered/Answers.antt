@@ -1,4 +1,4 @@
-use Rattle.std.proofs.Common.{◌∙◌, sym, refl, Some}
+use Rattle.std.proofs.Common.{◌∙◌, sym, refl}
 use Rattle.rt_base.specs.declared.reply.Reply.TheVariants.{Done}
 use Rattle.rt_model.specs.declared.event_kind.EventKind.TheVariants as kinds
 use Rattle.rt_model.specs.declared.phase.Route.TheVariants.{Short}

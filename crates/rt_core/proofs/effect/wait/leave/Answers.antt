@@ -1,4 +1,4 @@
-use Rattle.std.proofs.Common.{◌∙◌, ap, List, Bool, false, Some}
+use Rattle.std.proofs.Common.{◌∙◌, ap, List, false, Some}
 use Rattle.rt_base.specs.Kind.{spins}
 use Rattle.rt_model.specs.Parts.{TaskPart, kind_of}
 use Rattle.rt_model.specs.State.{Shared, lock_in}

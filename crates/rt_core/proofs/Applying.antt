@@ -14,21 +14,23 @@ use Rattle.rt_model.specs.declared.phase.Route.TheVariants.{Full, Short}
 use Rattle.rt_model.specs.declared.row.Row.{Row}
 use Rattle.rt_model.specs.Parts.{ThreadPart, call_of}
 use Rattle.rt_model.specs.Rows.{row_of}
-use Rattle.rt_model.specs.State.{State, Shared, shared, lock_at, owner_part, thread_part}
+use Rattle.rt_model.specs.State.{State, Shared, shared, lock_at, task_at, owner_part, thread_part}
 use Rattle.rt_model.specs.Stage.{IsServed}
 use Rattle.rt_model.specs.Choice.{called_lock}
+use Rattle.rt_model.specs.Path.{first_lock, first_owner}
+use Rattle.rt_model.specs.events.Walk.{cycle_event}
 use Rattle.rt_model.specs.events.Own.{own_answer}
 use Rattle.rt_model.specs.NextEvent.{event_of, next_event}
 use Rattle.rt_model.specs.StateAfter.{shared_after, thread_after, state_after}
 use Rattle.rt_model.specs.laws.Lawful.{IsLawful}
 use Rattle.rt_model.proofs.Calling.{thread_part-index}
 use Rattle.rt_model.proofs.events.Acquire.{is_fast, is_mark, is_take, is_busy}
-use Rattle.rt_model.proofs.events.Wait.{is_wait, is_again}
-use Rattle.rt_model.proofs.events.Walk.{is_walk, is_walkend}
+use Rattle.rt_model.proofs.events.Wait.{is_wait, is_again, is_leave}
+use Rattle.rt_model.proofs.events.Walk.{is_walk, is_walkend, is_restart, is_cycle}
 use Rattle.rt_model.proofs.events.Release.{is_free, is_give}
-use Rattle.rt_model.proofs.NextEvents.{IsNext, by_own, by_acquire, by_wait, by_walk, by_setprio, by_release, choice}
+use Rattle.rt_model.proofs.NextEvents.{IsNext, by_own, by_acquire, by_wait, by_walk, by_confirm, by_signal, by_setprio, by_release, choice}
 use Rattle.rt_model.proofs.Named.{within}
-use Rattle.rt_model.proofs.Waiters.{slow-unqueued, walk-link}
+use Rattle.rt_model.proofs.Waiters.{slow-unqueued, round-begins, walk-link}
 use Rattle.rt_model.proofs.laws.Rows.{blocked-queued}
 use Rattle.rt_model.proofs.laws.Walks.{walk-room}
 use Rattle.rt_model.proofs.Lists.{All-default, update-index}
@@ -40,7 +42,7 @@ use Rattle.rt_core.specs.Core.{Made, with_threads}
 use Rattle.rt_core.specs.Enabled.{IsKeptAt, AreKept}
 use Rattle.rt_core.specs.declared.enabled.Enabled.{Enabled}
 use Rattle.rt_core.specs.Links.{HasRoom}
-use Rattle.rt_core.specs.Fits.{NamesLock, CanQueue, CanLink, CanSet, Fits}
+use Rattle.rt_core.specs.Fits.{NamesLock, CanQueue, CanLink, NamesOwner, CanSet, Fits}
 use Rattle.rt_core.proofs.Choosing.{cursor-within}
 
 -- ---- what an event finds
@@ -64,8 +66,10 @@ keyed (Some row) key is = refl
 -- a call that its thread answers is on a lock
 called_lock-some : (s : State) (t : TaskId) (call : Call) (answer : Reply) → IsServed (length s.threads) (length s.locks) call → own_answer (thread_part s t) call ≡ Some answer → IsSome (called_lock (thread_part s t).cpu call)
 called_lock-some s t (calls.Lock l) answer served is = refl
+called_lock-some s t (calls.LockInt l) answer served is = refl
 called_lock-some s t (calls.TryLock l) answer served is = refl
 called_lock-some s t (calls.Unlock l) answer served is = refl
+called_lock-some s t (calls.Signal u) answer served is = cc
 called_lock-some s t (calls.SetPrio u prio) answer served is = cc
 called_lock-some s t _ answer served is = absurd served
 
@@ -74,6 +78,7 @@ record IsReady (s : State) (t : TaskId) (e : Event) : Type 0 where
   named : NamesLock e.kind e
   queue : CanQueue e.kind e (lock_at (shared s) e.lock)
   link : CanLink e.kind e (shared s) (thread_part s t)
+  first : NamesOwner e.kind e (shared s)
   set : CanSet e.kind e
 
 module _ (s : State) (made : ℕ) (t : TaskId) (lawful : IsLawful s made) (few : made < 2 ^ 62) where
@@ -90,16 +95,17 @@ module _ (s : State) (made : ℕ) (t : TaskId) (lawful : IsLawful s made) (few :
       by_phase _ is = tt
 
   ready : (e : Event) → IsNext s t e → IsReady s t e
-  ready e (by_own call answer is) = subst (IsReady s t) (sym is.event) (record { named = called_lock-some s t call answer is.at.served is.why; queue = tt; link = tt; set = tt })
-  ready e (by_acquire l (is_fast is)) = subst (IsReady s t) (sym is.event) (record { named = refl; queue = tt; link = tt; set = tt })
-  ready e (by_acquire l (is_mark is)) = subst (IsReady s t) (sym is.event) (record { named = refl; queue = tt; link = tt; set = tt })
-  ready e (by_acquire l (is_take is)) = subst (IsReady s t) (sym is.event) (record { named = refl; queue = tt; link = tt; set = tt })
-  ready e (by_acquire l (is_busy is)) = subst (IsReady s t) (sym is.event) (record { named = refl; queue = tt; link = tt; set = tt })
+  ready e (by_own call answer is) = subst (IsReady s t) (sym is.event) (record { named = called_lock-some s t call answer is.at.served is.why; queue = tt; link = tt; first = tt; set = tt })
+  ready e (by_acquire l (is_fast is)) = subst (IsReady s t) (sym is.event) (record { named = refl; queue = tt; link = tt; first = tt; set = tt })
+  ready e (by_acquire l (is_mark is)) = subst (IsReady s t) (sym is.event) (record { named = refl; queue = tt; link = tt; first = tt; set = tt })
+  ready e (by_acquire l (is_take is)) = subst (IsReady s t) (sym is.event) (record { named = refl; queue = tt; link = tt; first = tt; set = tt })
+  ready e (by_acquire l (is_busy is)) = subst (IsReady s t) (sym is.event) (record { named = refl; queue = tt; link = tt; first = tt; set = tt })
   ready e (by_wait l (is_wait is)) =
-      let none = unkeyed (row_of t (owner_part s l).rows) (slow-unqueued s made t lawful l (calls.Lock l) is.at) in
+      let none = unkeyed (row_of t (owner_part s l).rows) (slow-unqueued s made t lawful l is.at.call is.at.at) in
       let least = lawful.rows.tickets l in
-      subst (IsReady s t) (sym is.event) (record { named = refl; queue = (none, omega (arith, least, few)); link = tt; set = tt })
-  ready e (by_wait l (is_again is)) = subst (IsReady s t) (sym is.event) (record { named = refl; queue = tt; link = tt; set = tt })
+      subst (IsReady s t) (sym is.event) (record { named = refl; queue = (none, omega (arith, least, few)); link = tt; first = tt; set = tt })
+  ready e (by_wait l (is_again is)) = subst (IsReady s t) (sym is.event) (record { named = refl; queue = tt; link = tt; first = tt; set = tt })
+  ready e (by_wait l (is_leave is)) = subst (IsReady s t) (sym is.event) (record { named = refl; queue = tt; link = tt; first = tt; set = tt })
   ready e (by_walk route u (is_walk l key is)) =
       let least = lawful.rows.tickets l in
       let at = walk-link s made t route u l key e lawful is in
@@ -115,12 +121,20 @@ module _ (s : State) (made : ℕ) (t : TaskId) (lawful : IsLawful s made) (few :
           owner = refl;
           room = room;
         };
+        first = tt;
         set = tt;
       })
-  ready e (by_walk route u (is_walkend is)) = subst (IsReady s t) (sym is.event) (record { named = tt; queue = tt; link = tt; set = tt })
-  ready e (by_setprio u prio is) = subst (IsReady s t) (sym is.event) (record { named = tt; queue = tt; link = tt; set = record { target = refl; value = is.at.served.1 } })
-  ready e (by_release l (is_free is)) = subst (IsReady s t) (sym is.event) (record { named = refl; queue = tt; link = tt; set = tt })
-  ready e (by_release l (is_give is)) = subst (IsReady s t) (sym is.event) (record { named = refl; queue = tt; link = tt; set = tt })
+  ready e (by_walk route u (is_walkend is)) = subst (IsReady s t) (sym is.event) (record { named = tt; queue = tt; link = tt; first = tt; set = tt })
+  ready e (by_confirm l path (is_restart link is)) = subst (IsReady s t) (sym is.event) (record { named = tt; queue = tt; link = tt; first = tt; set = tt })
+  ready e (by_confirm l path (is_cycle is)) =
+      let round = round-begins s made t path l lawful is.at in
+      let cycle : List (ℕ × ℕ) → Event = λ xs. cycle_event t xs (lock_at (shared s) (first_lock xs)) (task_at (shared s) (first_owner xs)) in
+      let there = subst (λ (n : ℕ). round.owner.0 < n) (sym lawful.shape.tasks) round.there in
+      subst (IsReady s t) (sym (is.event ∙ ap cycle round.is)) (record { named = refl; queue = tt; link = tt; first = there; set = tt })
+  ready e (by_signal u is) = subst (IsReady s t) (sym is.event) (record { named = tt; queue = tt; link = tt; first = tt; set = tt })
+  ready e (by_setprio u prio is) = subst (IsReady s t) (sym is.event) (record { named = tt; queue = tt; link = tt; first = tt; set = record { target = refl; value = is.at.served.1 } })
+  ready e (by_release l (is_free is)) = subst (IsReady s t) (sym is.event) (record { named = refl; queue = tt; link = tt; first = tt; set = tt })
+  ready e (by_release l (is_give is)) = subst (IsReady s t) (sym is.event) (record { named = refl; queue = tt; link = tt; first = tt; set = tt })
 
 answered : (reply : Option Reply) (call : Option Call) → IsSome call → IfSome reply (λ _. IsSome call)
 answered None call some = tt
@@ -149,6 +163,7 @@ fits s made e lawful few is =
       call = answered e.reply (call_of (thread_part s e.task)) (calling s e.task e is);
       queue = ready.queue;
       link = ready.link;
+      first = ready.first;
       set = ready.set;
     }
 

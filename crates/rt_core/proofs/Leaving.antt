@@ -1,17 +1,14 @@
 -- What the steps of an event leave of the shared parts.
-use Rattle.std.proofs.Common.{◌≡◌, ◌≢◌, ◌∙◌, ℕ, zero, suc, ◌<◌, List, [], ◌∷◌, length, refl, sym, ap, subst, Option, Some, IfSome}
+use Rattle.std.proofs.Common.{◌≡◌, ◌≢◌, ◌∙◌, ℕ, zero, suc, ◌<◌, Bool, true, false, cond, List, [], ◌∷◌, length, refl, sym, ap, subst, Option, Some, None, IfSome, is_some}
 use Rattle.rt_base.specs.declared.id.LockId.{LockId}
 use Rattle.rt_base.specs.declared.id.TaskId.{TaskId}
 use Rattle.rt_model.specs.declared.event.Event.{Event}
 use Rattle.rt_model.specs.declared.event_kind.EventKind.{EventKind}
 use Rattle.rt_model.specs.declared.event_kind.EventKind.TheVariants as kinds
-use Rattle.rt_base.specs.declared.reply.Reply.TheVariants.{Done}
-use Rattle.rt_model.specs.declared.phase.Route.TheVariants.{Short}
+use Rattle.rt_model.specs.declared.phase.Phase.{Phase}
 use Rattle.rt_model.specs.Parts.{OwnerPart, TaskPart, ThreadPart}
-use Rattle.rt_model.specs.State.{Shared, free_lock, lock_in, task_at}
-use Rattle.rt_model.specs.steps.Task.{refreshed}
-use Rattle.rt_model.specs.steps.Chain.{goes_on, phase_of_walk}
-use Rattle.rt_model.specs.events.Walk.{phase_after_link}
+use Rattle.rt_model.specs.State.{Shared, free_lock, lock_in}
+use Rattle.rt_model.specs.steps.Task.{refreshed, restored, leave_queue, interrupted}
 use Rattle.rt_model.specs.Effect.{Touched}
 use Rattle.rt_model.specs.Rules.{touched}
 use Rattle.rt_model.specs.StateAfter.{update, at_lock, at_task, shared_after}
@@ -66,35 +63,38 @@ refresh-left sh a b left l f t g o lt is_a is_b is =
     is ∙ (ap (λ (x : Shared). record x { tasks = at_task x.tasks o (refreshed (Some l) (lock_in x l).rows) }) then
     ∙ ap (refreshed_after sh l f t g o) (read-update sh.locks l.0 f free_lock lt))
 
+-- a task leaves a queue once its signal isn't pending, or the other way round
+interrupted-cleared : (spinning : Bool) (task : TaskPart) → leave_queue spinning (record task { signal = false }) ≡ interrupted spinning task
+interrupted-cleared spinning task = by_tests spinning (is_some task.blocked)
+  where
+    by_tests : (spinning queued : Bool) → cond queued (record (restored spinning (record task { signal = false })) { blocked = None }) (record task { signal = false })
+        ≡ record (cond queued (record (restored spinning task) { blocked = None }) task) { signal = false }
+    by_tests true true = refl
+    by_tests false true = refl
+    by_tests spinning false = refl
+
+-- so of two updates
+pub left-interrupted : (sh : Shared) (i : ℕ) (spinning : Bool) → update (update sh.tasks i (λ task. record task { signal = false })) i (leave_queue spinning) ≡ update sh.tasks i (interrupted spinning)
+left-interrupted sh i spinning =
+    update-twice sh.tasks i (λ task. record task { signal = false }) (leave_queue spinning)
+    ∙ ap (update sh.tasks i) (λ j task. interrupted-cleared spinning task j)
+
 -- ---- by the kind
 
 -- an event of this kind on this lock
 pub left-at : (sh : Shared) (thread : ThreadPart) (e : Event) (kind : EventKind) (l : LockId) → e.kind ≡ kind → e.lock ≡ Some l → shared_after sh thread (record e { kind = kind; lock = Some l }) ≡ shared_after sh thread e
 left-at sh thread e kind l is named = sym (λ i. shared_after sh thread (record e { kind = is i; lock = named i }))
 
-pub moved-at : (sh : Shared) (thread : ThreadPart) (e : Event) (kind : EventKind) (l : LockId) → e.kind ≡ kind → e.lock ≡ Some l → thread_moved sh thread (record e { kind = kind; lock = Some l }) ≡ thread_moved sh thread e
-moved-at sh thread e kind l is named = sym (λ i. thread_moved sh thread (record e { kind = is i; lock = named i }))
-
 -- an event of this kind, wherever it is
 pub kind-left : (sh : Shared) (thread : ThreadPart) (e : Event) (kind : EventKind) → e.kind ≡ kind → shared_after sh thread (record e { kind = kind }) ≡ shared_after sh thread e
 kind-left sh thread e kind is = sym (λ i. shared_after sh thread (record e { kind = is i }))
 
-pub kind-moved : (sh : Shared) (thread : ThreadPart) (e : Event) (kind : EventKind) → e.kind ≡ kind → thread_moved sh thread (record e { kind = kind }) ≡ thread_moved sh thread e
-kind-moved sh thread e kind is = sym (λ i. thread_moved sh thread (record e { kind = is i }))
-
--- a thread after a link, whose event leaves these parts
-pub link-moved : (sh left : Shared) (thread moved : ThreadPart) (e : Event) (l : LockId) → e.kind ≡ kinds.Walk → e.lock ≡ Some l → left ≡ shared_after sh thread e
-    → moved ≡ record thread { phase = phase_after_link (Some l) e.owner (task_at left e.owner) thread.phase } → moved ≡ thread_moved sh thread e
-link-moved sh left thread moved e l is named is_left is_moved =
-    let all = is_left ∙ sym (left-at sh thread e kinds.Walk l is named) in
-    is_moved ∙ (ap (λ (x : Shared). record thread { phase = phase_after_link (Some l) e.owner (task_at x e.owner) thread.phase }) all ∙ moved-at sh thread e kinds.Walk l is named)
-
--- and after a setprio
-pub set-moved : (sh left : Shared) (thread moved : ThreadPart) (e : Event) → e.kind ≡ kinds.SetPrio → left ≡ shared_after sh thread e
-    → moved ≡ record thread { phase = phase_of_walk (Short Done) (goes_on (Short Done) e.other (task_at left e.other)) } → moved ≡ thread_moved sh thread e
-set-moved sh left thread moved e is is_left is_moved =
-    let all = is_left ∙ sym (kind-left sh thread e kinds.SetPrio is) in
-    is_moved ∙ (ap (λ (x : Shared). record thread { phase = phase_of_walk (Short Done) (goes_on (Short Done) e.other (task_at x e.other)) }) all ∙ kind-moved sh thread e kinds.SetPrio is)
+-- a thread that an event, which comes about as x, leaves in a phase that is told by the parts that are left
+pub told-moved : (sh left : Shared) (thread moved : ThreadPart) (e x : Event) (phase : Shared → Phase) → x ≡ e → thread_moved sh thread x ≡ record thread { phase = phase (shared_after sh thread x) }
+    → left ≡ shared_after sh thread e → moved ≡ record thread { phase = phase left } → moved ≡ thread_moved sh thread e
+told-moved sh left thread moved e x phase is tells is_left is_moved =
+    let all = is_left ∙ sym (ap (shared_after sh thread) is) in
+    is_moved ∙ (ap (λ (y : Shared). record thread { phase = phase y }) all ∙ (sym tells ∙ ap (thread_moved sh thread) is))
 
 -- parts that are touched and left as they were
 pub untouched : (sh : Shared) (named : Touched) → sh ≡ record {
@@ -112,7 +112,7 @@ untouched sh named =
     let readers = at_lock-none sh.readers named.readers (λ readers. readers) (λ readers. refl) in
     sym (λ i. record { locks = locks i; readers = readers i; tasks = woken i })
 
--- an event of another kind than the ten leaves all as it was
+-- an event of another kind than these leaves all as it was
 pub record LeavesAll (sh : Shared) (own : ThreadPart) (e : Event) : Type 0 where
   pub shared : sh ≡ shared_after sh own e
   pub thread : own ≡ thread_moved sh own e
@@ -126,7 +126,11 @@ pub record IsOther (kind : EventKind) : Type 0 where
   pub free : kind ≢ kinds.Free
   pub give : kind ≢ kinds.Give
   pub walk : kind ≢ kinds.Walk
+  pub leave : kind ≢ kinds.Leave
+  pub cycle : kind ≢ kinds.Cycle
   pub walkend : kind ≢ kinds.WalkEnd
+  pub restart : kind ≢ kinds.Restart
+  pub wake : kind ≢ kinds.Wake
   pub setprio : kind ≢ kinds.SetPrio
 
 others-leave : (sh : Shared) (thread : ThreadPart) (e : Event) (kind : EventKind) → IsOther kind → LeavesAll sh thread (record e { kind = kind })
@@ -138,13 +142,20 @@ others-leave sh thread e kinds.Again other = absurd (other.again refl)
 others-leave sh thread e kinds.Free other = absurd (other.free refl)
 others-leave sh thread e kinds.Give other = absurd (other.give refl)
 others-leave sh thread e kinds.Walk other = absurd (other.walk refl)
+others-leave sh thread e kinds.Leave other = absurd (other.leave refl)
+others-leave sh thread e kinds.Cycle other = absurd (other.cycle refl)
 others-leave sh thread e kinds.WalkEnd other = absurd (other.walkend refl)
+others-leave sh thread e kinds.Restart other = absurd (other.restart refl)
+others-leave sh thread e kinds.Wake other = absurd (other.wake refl)
 others-leave sh thread e kinds.SetPrio other = absurd (other.setprio refl)
 others-leave sh thread e kind other = record { shared = untouched sh (touched kind (record e { kind = kind })); thread = refl }
 
 pub other-leaves : (sh : Shared) (thread : ThreadPart) (e : Event) → IsOther e.kind → LeavesAll sh thread e
 other-leaves sh thread e other = others-leave sh thread e e.kind other
 
--- the end of a walk leaves all as it was but its thread
+-- the end of a walk, and a walk that begins anew, leave all as it was but their thread
 pub end-left : (sh : Shared) (thread : ThreadPart) (e : Event) → e.kind ≡ kinds.WalkEnd → sh ≡ shared_after sh thread e
 end-left sh thread e is = untouched sh (touched kinds.WalkEnd e) ∙ kind-left sh thread e kinds.WalkEnd is
+
+pub restart-left : (sh : Shared) (thread : ThreadPart) (e : Event) → e.kind ≡ kinds.Restart → sh ≡ shared_after sh thread e
+restart-left sh thread e is = untouched sh (touched kinds.Restart e) ∙ kind-left sh thread e kinds.Restart is

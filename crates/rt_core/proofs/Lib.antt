@@ -5,7 +5,6 @@ pub mod PrefixesAll
 pub mod PathLinks
 pub mod OwnerParts
 pub mod SharedSteps
-pub mod Walked
 pub mod TwoCells
 pub mod Holds
 pub mod Starting

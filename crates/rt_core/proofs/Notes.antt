@@ -33,6 +33,7 @@ phase_within s made t call phases.Start at lawful fits = ready_or s t notes.Wake
 phase_within s made t call phases.Slow at lawful fits = ready_or s t notes.Wake tt
 phase_within s made t call phases.Wait at lawful fits = ready_or s t (blocked_note (task_part s t).blocked) (blocked_within s made t (task_part s t).blocked lawful refl)
 phase_within s made t call (phases.Walk cursor route) at lawful fits = cursor-within s made t lawful cursor route at
+phase_within s made t call (phases.Confirm path) at lawful fits = tt
 phase_within s made t call _ at lawful fits = absurd fits
 
 call_within : (s : State) (made : ℕ) (t : TaskId) (call : Option Call) → IsLawful s made → call_of (thread_part s t) ≡ call → IsNoteWithin (length s.threads) (length s.locks) (call_note s t call)

@@ -1,8 +1,9 @@
 -- The links of a path: how many they are, the first of them, and the first one that passes a test.
 use Rattle.std.proofs.Common.{◌≡◌, ℕ, zero, suc, ◌+◌, ◌<◌, ◌≤◌, Bool, true, false, cond, List, [], ◌∷◌, length, drop, refl, ap, sym, subst, ◌∙◌, Option, Some, None, unwrap_or, All, add-one, arith}
 use Rattle.std.specs.Prelude.{find, slice_get}
+use Rattle.std.proofs.lemmas.List.Elements.{All-nil, All-cons, All-head, All-tail}
 use Rattle.rt_base.specs.declared.id.TaskId.{TaskId}
-use Rattle.rt_model.specs.Path.{Link, links_to, links_of, first_lock, first_owner}
+use Rattle.rt_model.specs.Path.{Link, first_task, links_to, links_of, first_lock, first_owner}
 use Rattle.rt_model.proofs.Lists.{All-default}
 use Rattle.rt_walk.specs.Link.{link_at}
 
@@ -18,6 +19,22 @@ length-links (pair ∷ path) = length-to (record { 0 = pair.0 }) (pair ∷ path)
 -- what holds of each holds of the one at i
 pub at-link : (P : Link → Type 0) (path : List (ℕ × ℕ)) (i : ℕ) → All P (links_of path) → i < length path → P (link_at path i)
 at-link P path i each lt = All-default P (links_of path) i _ each (subst (λ (n : ℕ). i < n) (sym (length-links path)) lt)
+
+-- the tasks of each are among n where those of the path's pairs are
+links_to-there : (n : ℕ) (end : TaskId) (path : List (ℕ × ℕ)) → end.0 < n → All (λ (pair : ℕ × ℕ). pair.0 < n) path → All (λ (link : Link). (link.from.0 < n) × (link.to.0 < n)) (links_to end path)
+links_to-there n end [] last each = All-nil (λ (link : Link). (link.from.0 < n) × (link.to.0 < n))
+links_to-there n end (pair ∷ path) last each =
+    let Within = λ (pair : ℕ × ℕ). pair.0 < n in
+    let rest = All-tail Within pair path each in
+    All-cons (λ (link : Link). (link.from.0 < n) × (link.to.0 < n)) _ (links_to end path) (All-head Within pair path each, leads path rest) (links_to-there n end path last rest)
+  where
+    leads : (path : List (ℕ × ℕ)) → All (λ (pair : ℕ × ℕ). pair.0 < n) path → (first_task end path).0 < n
+    leads [] each = last
+    leads (next ∷ path) each = All-head (λ (pair : ℕ × ℕ). pair.0 < n) next path each
+
+pub links-there : (n : ℕ) (path : List (ℕ × ℕ)) → All (λ (pair : ℕ × ℕ). pair.0 < n) path → All (λ (link : Link). (link.from.0 < n) × (link.to.0 < n)) (links_of path)
+links-there n [] each = All-nil (λ (link : Link). (link.from.0 < n) × (link.to.0 < n))
+links-there n (pair ∷ path) each = links_to-there n (record { 0 = pair.0 }) (pair ∷ path) (All-head (λ (pair : ℕ × ℕ). pair.0 < n) pair path each) each
 
 -- ---- the first one
 

@@ -7,6 +7,7 @@ use Rattle.rt_model.specs.declared.event_kind.EventKind.TheVariants as kinds
 use Rattle.rt_model.specs.Parts.{OwnerPart, ThreadPart, call_of}
 use Rattle.rt_model.specs.Rows.{row_of}
 use Rattle.rt_model.specs.State.{Shared, lock_at, task_in, task_at}
+use Rattle.rt_model.specs.Path.{first_owner}
 use Rattle.rt_model.specs.Effect.{around}
 use Rattle.rt_model.specs.Rules.{touched}
 use Rattle.rt_model.specs.StateAfter.{effect_in, shared_after}
@@ -15,9 +16,11 @@ use Rattle.rt_core.specs.Links.{IsQueuedAt, HasRoom}
 
 -- ---- by the kind
 
--- an event is on a lock, but where a walk ends or a priority is set
+-- an event is on a lock, but where a walk ends or begins anew, a task is woken, or a priority is set
 abbrev pub NamesLock : EventKind → Event → Type 0
 NamesLock kinds.WalkEnd e = Unit {0}
+NamesLock kinds.Restart e = Unit {0}
+NamesLock kinds.Wake e = Unit {0}
 NamesLock kinds.SetPrio e = Unit {0}
 NamesLock _ e = IsSome e.lock
 
@@ -38,6 +41,11 @@ pub record IsLink (e : Event) (sh : Shared) (thread : ThreadPart) : Type 0 where
 abbrev pub CanLink : EventKind → Event → Shared → ThreadPart → Type 0
 CanLink kinds.Walk e sh thread = IsLink e sh thread
 CanLink _ e sh thread = Unit {0}
+
+-- where a cycle is left, the task to which the path's first link leads is there
+abbrev pub NamesOwner : EventKind → Event → Shared → Type 0
+NamesOwner kinds.Cycle e sh = IfSome (first_owner e.path) (λ t. t.0 < length sh.tasks)
+NamesOwner _ e sh = Unit {0}
 
 -- a task that is to have another priority is named, and it is one
 pub record IsPriority (e : Event) : Type 0 where
@@ -62,6 +70,7 @@ pub record Fits (e : Event) (sh : Shared) (thread : ThreadPart) : Type 0 where
   pub call : IfSome e.reply (λ _. IsSome (call_of thread))
   pub queue : CanQueue e.kind e (lock_at sh e.lock)
   pub link : CanLink e.kind e sh thread
+  pub first : NamesOwner e.kind e sh
   pub set : CanSet e.kind e
 
 -- the thread as the event leaves it, but for an answer

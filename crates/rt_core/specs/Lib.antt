@@ -14,6 +14,7 @@ pub use Rattle.rt_model.specs.Parts
 pub use Rattle.rt_model.specs.Rows
 pub use Rattle.rt_model.specs.State
 pub use Rattle.rt_model.specs.Stage
+pub use Rattle.rt_model.specs.Path
 pub use Rattle.rt_model.specs.Effect
 pub use Rattle.rt_model.specs.Choice
 pub use Rattle.rt_model.specs.Rules

@@ -4,15 +4,18 @@ use Rattle.rt_base.specs.declared.id.LockId.{LockId}
 use Rattle.rt_base.specs.declared.id.TaskId.{TaskId}
 use Rattle.rt_base.specs.declared.limits.TheConstants.{MAX_LINKS, MAX_TASKS}
 use Rattle.rt_model.specs.declared.phase.Phase.{Phase}
+use Rattle.rt_model.specs.declared.phase.Phase.TheVariants as phases
 use Rattle.rt_model.specs.declared.phase.Phase.TheVariants.{Walk}
 use Rattle.rt_model.specs.declared.phase.Route.{Route}
-use Rattle.rt_model.specs.declared.phase.Route.TheVariants.{Full}
+use Rattle.rt_model.specs.declared.phase.Route.TheVariants.{Full, Short}
 use Rattle.rt_model.specs.Parts.{OwnerPart, TaskPart}
 use Rattle.rt_model.specs.Rows.{row_of}
 use Rattle.rt_model.specs.State.{Shared, no_task, lock_in, task_in}
 use Rattle.rt_model.specs.StateAfter.{update, at_task}
 use Rattle.rt_model.specs.laws.Owners.{owned_by}
-use Rattle.rt_model.specs.steps.Chain.{requeued_where_old, rekeyed, refreshed_where_changed}
+use Rattle.rt_model.specs.steps.Chain.{requeued_where_old, rekeyed, refreshed_where_changed, phase_of_walk}
+use Rattle.rt_walk.specs.declared.next.Next.{Next}
+use Rattle.rt_walk.specs.declared.next.Next.TheVariants.{End, Confirm, To}
 use Rattle.rt_walk.specs.Link.{awaited}
 
 -- the task is queued at the lock, which has a ticket for it and isn't its own
@@ -27,10 +30,17 @@ abbrev pub HasRoom : Phase → Type 0
 HasRoom (Walk cursor (Full path)) = (cursor.0 < MAX_TASKS) × (length path < MAX_LINKS)
 HasRoom _ = Unit {0}
 
--- the phase of a walk on this route that goes on to a task, or none where it ends
-abbrev pub walk_to : Route → Option TaskId → Option Phase
-walk_to route None = None
-walk_to route (Some t) = Some (Walk t route)
+-- the phase of a walk that goes on so, whose route is cut already, or none where it ends
+abbrev pub walk_to : Route → Next → Option Phase
+walk_to route End = None
+walk_to (Full path) Confirm = Some (phases.Confirm path)
+walk_to (Short answer) Confirm = None
+walk_to route (To t keep) = Some (Walk t route)
+
+-- what becomes of a phase by that
+abbrev pub phase_told : Next → Phase → Phase
+phase_told next (Walk cursor route) = phase_of_walk route (walk_to route next)
+phase_told next phase = phase
 
 -- the task among these
 abbrev pub task_among : List TaskPart → TaskId → TaskPart

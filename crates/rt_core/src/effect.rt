@@ -1,6 +1,6 @@
 // What an event leaves of the shared parts and of its own thread.
 ghost use Rattle.std.specs.Prelude.{◌≡◌, ◌≢◌, ◌<◌, length, Some};
-ghost use Rattle.rt_model.specs.declared.event_kind.EventKind.TheVariants.{WalkEnd, SetPrio};
+ghost use Rattle.rt_model.specs.declared.event_kind.EventKind.TheVariants.{WalkEnd, Restart, Wake, SetPrio};
 ghost use Rattle.rt_model.specs.StateAfter.{shared_after, thread_after};
 ghost use Rattle.rt_core.specs.Fits.{Fits, thread_moved};
 
@@ -35,6 +35,8 @@ fn make_unanswered(shared: &mut Shared, thread: &mut Thread, e: &Event)
 {
     match e.kind {
         EventKind::WalkEnd => thread.end_walk(),
+        EventKind::Restart => walk::restart(thread, e),
+        EventKind::Wake => wakeups::wake(shared, e),
         EventKind::SetPrio => wakeups::setprio(shared, thread, e),
         _ => {
             // Each other event is on a lock, which the condition says.
@@ -48,6 +50,8 @@ fn make_unanswered(shared: &mut Shared, thread: &mut Thread, e: &Event)
 fn make_on_lock(shared: &mut Shared, thread: &mut Thread, e: &Event, l: LockId)
     requires fits { Fits e.now shared.old thread.old }
     requires not_end { e.now.kind ≢ WalkEnd }
+    requires not_restart { e.now.kind ≢ Restart }
+    requires not_wake { e.now.kind ≢ Wake }
     requires not_set { e.now.kind ≢ SetPrio }
     requires named { e.now.lock ≡ Some l }
     requires lock { l.0 < length shared.old.locks }
@@ -60,7 +64,9 @@ fn make_on_lock(shared: &mut Shared, thread: &mut Thread, e: &Event, l: LockId)
         EventKind::Take => acquire::take(shared, e, l, thread.kind_of(l)),
         EventKind::Wait => wait::wait(shared, thread, e, l),
         EventKind::Again => wait::again(shared, e, thread.rest_for(l)),
+        EventKind::Leave => wait::leave(shared, thread, e, l),
         EventKind::Walk => walk::walk(shared, thread, e, l),
+        EventKind::Cycle => walk::cycle(shared, thread, e, l),
         EventKind::Free => release::free(shared, l),
         EventKind::Give => release::give(shared, e, l, thread.kind_of(l)),
         // `busy` and `own` leave nothing but their answers, and the other kinds don't come yet.

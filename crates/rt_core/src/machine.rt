@@ -1,4 +1,5 @@
 ghost use Rattle.std.specs.Prelude.{◌≡◌, ◌↔◌, ◌<◌, ◌≤◌, ◌+◌, ◌^◌, ◌++◌, ℕ, length, false, All, IsTrue, None, Some, IfOk, IfSome, vec_len, vec_capacity};
+ghost use Rattle.std.specs.List.{count_by};
 ghost use Rattle.rt_base.specs.Script.{Script};
 ghost use Rattle.rt_model.specs.declared.obj.Obj.{Obj};
 ghost use Rattle.rt_model.specs.Parts.{call_of, effective_of};
@@ -8,7 +9,7 @@ ghost use Rattle.rt_model.specs.NextEvent.{next_event};
 ghost use Rattle.rt_model.specs.StateAfter.{state_after};
 ghost use Rattle.rt_model.specs.Footprint.{touches};
 ghost use Rattle.rt_model.specs.Run.{is_done, is_stuck, is_enabled, lowest};
-ghost use Rattle.rt_model.specs.Order.{is_walking};
+ghost use Rattle.rt_model.specs.Order.{in_walk, is_walking};
 ghost use Rattle.rt_model.specs.laws.Shape.{IsOf, IsWithin, SameSize};
 ghost use Rattle.rt_model.specs.laws.Lawful.{IsLawful};
 ghost use Rattle.rt_model.specs.laws.Local.{AgreeOn};
@@ -61,7 +62,7 @@ impl Model for Core {
 
 impl Core {
     /// Whether the machine plays a script, so far one whose locks are all mutexes, and whose tasks take and
-    /// release them and set priorities.
+    /// release them, send signals and set priorities.
     pub fn can(script: &Script) -> bool
         ensures { IsTrue result ↔ IsPlayable script.now }
     {
@@ -189,6 +190,16 @@ impl Core {
         ensures { result ≡ lowest (is_walking self.now.state) (length self.now.state.threads) }
     {
         self.enabled.walking.lowest()
+    }
+
+    /// How many tasks' chain walks are unfinished.
+    pub fn walks(&self) -> u32
+        ensures { result ≡ count_by (λ thread. in_walk thread.phase) self.now.state.threads }
+    {
+        self.threads
+            .iter()
+            .filter(|thread| thread.is_in_walk())
+            .count() as u32
     }
 
     /// Where a task stands.

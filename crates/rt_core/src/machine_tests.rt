@@ -302,6 +302,7 @@ fn c_walks(rt: &impl Abort, core: &Core) {
     assert!(rt; core.tasks() == 3);
     assert_eq!(rt; core.note(C), Note::Walk(B));
     assert_eq!(rt; core.lowest_walking(), Some(C));
+    assert_eq!(rt; core.walks(), 1);
     assert_eq!(rt; core.lowest_enabled(), Some(C));
     for t in [A, B, C] {
         assert_eq!(rt; core.is_walking(t), t == C);
@@ -312,7 +313,7 @@ fn c_walks(rt: &impl Abort, core: &Core) {
 // Two wait for a task that has no more calls.
 fn is_stuck(rt: &impl Abort, core: &Core) {
     assert!(rt; core.tasks() == 3);
-    assert!(rt; core.stuck() && !core.done());
+    assert!(rt; core.stuck() && !core.done() && core.walks() == 0);
     assert_eq!(rt; core.lowest_enabled(), None);
     assert_eq!(rt; core.note(A), Note::End);
     for t in [A, B, C] {

@@ -15,7 +15,7 @@ ghost use Rattle.rt_model.specs.Order.{in_walk};
 ghost use Rattle.rt_model.specs.steps.Chain.{followed, goes_on, phase_of_walk};
 ghost use Rattle.rt_model.specs.events.Walk.{phase_after_link, phase_after_end};
 ghost use Rattle.rt_walk.specs.Next.{found};
-ghost use Rattle.rt_core.specs.Links.{HasRoom, walk_to};
+ghost use Rattle.rt_core.specs.Links.{HasRoom, walk_to, phase_told};
 
 use rt_base::limits::{MAX_CALLS, MAX_LOCKS, MAX_TASKS};
 use rt_base::{Call, Cpu, Kind, LockId, NoMemory, Path, Reply, TaskId, TaskState};
@@ -151,7 +151,7 @@ impl Thread {
         ensures within { IfSome result (λ l. l.0 < length self.now.kinds) }
     {
         match call {
-            Call::Lock(l) | Call::TryLock(l) | Call::Unlock(l) => Some(*l),
+            Call::Lock(l) | Call::LockInt(l) | Call::TryLock(l) | Call::Unlock(l) => Some(*l),
             _ => None,
         }
     }
@@ -191,19 +191,31 @@ impl Thread {
         self.phase = phase;
     }
 
-    /// Its walk, of this task, leaves a lock, and goes on at the lock's owner, or ends. `next` is what it
-    /// finds of the owner: who that is, whether it is blocked, and whether its key is right.
+    /// Its walk, of this task, leaves a lock, and goes on at the lock's owner, is to be confirmed, or ends.
+    /// `next` is what it finds of the owner: who that is, whether it is blocked, and whether its key is
+    /// right.
     pub fn follow(&mut self, t: TaskId, l: LockId, next: Option<(TaskId, bool, bool)>)
         requires lock { l.0 < length self.old.kinds }
         requires room { HasRoom self.old.phase }
-        ensures { (owner : Option TaskId) (task : TaskPart) → next ≡ found owner task → self.new ≡ record self.old { phase = phase_after_link (Some l) owner task self.old.phase } }
+        ensures { (owner : Option TaskId) (task : TaskPart) → next ≡ found owner task → self.new ≡ record self.old { phase = phase_after_link t (Some l) owner task self.old.phase } }
     {
         let Phase::Walk(cursor, route) = &mut self.phase else {
             return;
         };
-        match follow_route(route, t, *cursor, l, next) {
-            Some(task) => *cursor = task,
-            None => self.end_walk(),
+        let next = follow_route(route, t, *cursor, l, next);
+        self.go_on(next);
+    }
+
+    // Its walk, whose route has the link that it made, goes on so.
+    fn go_on(&mut self, next: Next)
+        ensures { self.new ≡ record self.old { phase = phase_told next self.old.phase } }
+    {
+        match (next, &mut self.phase) {
+            (Next::To { task, .. }, Phase::Walk(cursor, _)) => *cursor = task,
+            (Next::Confirm, Phase::Walk(_, Route::Full(path))) => {
+                self.phase = Phase::Confirm(*path)
+            }
+            _ => self.end_walk(),
         }
     }
 
@@ -235,7 +247,9 @@ impl Thread {
         ensures { self.new ≡ record self.old { holds = holds_after self.old (Some call) reply } }
     {
         match (call, reply) {
-            (Call::Lock(l) | Call::TryLock(l), Reply::Got) => self.set_owns(l, true),
+            (Call::Lock(l) | Call::LockInt(l) | Call::TryLock(l), Reply::Got) => {
+                self.set_owns(l, true)
+            }
             (Call::Unlock(l), Reply::Done) => self.set_owns(l, false),
             _ => {}
         }
@@ -255,47 +269,35 @@ impl Thread {
     }
 }
 
-// Where a walk goes on that leaves this lock, with its route after that; `None` where it ends.
+// How a walk goes on that leaves this lock, with its route after that.
 fn follow_route(
     route: &mut Route,
     t: TaskId,
     cursor: TaskId,
     l: LockId,
     next: Option<(TaskId, bool, bool)>,
-) -> Option<TaskId>
+) -> Next
     requires lock { l.0 < MAX_LOCKS }
     requires room { HasRoom (Walk cursor route.old) }
-    ensures next { (owner : Option TaskId) (task : TaskPart) → next ≡ found owner task → walk_to route.new result ≡ goes_on (followed cursor l route.old) owner task }
+    ensures next { (owner : Option TaskId) (task : TaskPart) → next ≡ found owner task → walk_to route.new result ≡ goes_on t (followed cursor l route.old) owner task }
     ensures end { phase_of_walk route.new None ≡ phase_of_walk route.old None }
 {
     let Route::Full(path) = route else {
-        return follow_old_keys(t, next);
+        return after(t, false, &Path::empty(), next);
     };
     path.push(cursor, l);
     follow_path(path, t, next)
 }
 
-// Where a full walk goes on, whose path is cut before that task; `None` where it ends.
-fn follow_path(path: &mut Path, t: TaskId, next: Option<(TaskId, bool, bool)>) -> Option<TaskId>
-    ensures { (owner : Option TaskId) (task : TaskPart) → next ≡ found owner task → walk_to (Full path.new) result ≡ goes_on (Full path.old) owner task }
+// How a full walk goes on, whose path is cut before the task at which it does so.
+fn follow_path(path: &mut Path, t: TaskId, next: Option<(TaskId, bool, bool)>) -> Next
+    ensures { (owner : Option TaskId) (task : TaskPart) → next ≡ found owner task → walk_to (Full path.new) result ≡ goes_on t (Full path.old) owner task }
 {
-    match after(t, true, path, next) {
-        Next::To { task, keep } => {
-            path.cut(keep);
-            Some(task)
-        }
-        _ => None,
+    let next = after(t, true, path, next);
+    if let Next::To { keep, .. } = next {
+        path.cut(keep);
     }
-}
-
-// Where a short walk goes on; `None` where it ends.
-fn follow_old_keys(t: TaskId, next: Option<(TaskId, bool, bool)>) -> Option<TaskId>
-    ensures { (answer : Reply) (owner : Option TaskId) (task : TaskPart) → next ≡ found owner task → walk_to (Short answer) result ≡ goes_on (Short answer) owner task }
-{
-    match after(t, false, &Path::empty(), next) {
-        Next::To { task, .. } => Some(task),
-        _ => None,
-    }
+    next
 }
 
 // The state in which a call sleeps in an ordinary way.

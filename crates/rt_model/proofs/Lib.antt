@@ -29,6 +29,8 @@ pub mod Leaves
 pub mod Routes
 pub mod Paths
 pub mod Owned
+-- the blocking graph, and who is responsible for its cycles
+pub mod graph
 -- the laws, one a file, and that a next event keeps all of them
 pub mod laws
 pub mod Lawful

@@ -10,8 +10,12 @@ pub mod Keys
 pub mod Walks
 pub mod States
 pub mod OwnPriorities
+pub mod Responsible
 pub mod Holders
+pub mod Causes
 pub mod Deadlocks
+pub mod Interrupts
+pub mod Cycles
 pub mod Priorities
 pub mod Calls
 pub mod Sound

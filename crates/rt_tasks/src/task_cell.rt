@@ -308,6 +308,13 @@ impl TaskCell {
         }
     }
 
+    /// Whether a signal would end an interruptible sleep of it, or one that is saved, `ttwu_state_match`.
+    pub fn heeds_signal(&self) -> bool
+        ensures { result ≡ (is_interruptible self.now.state || is_interruptible self.now.saved) }
+    {
+        is_interruptible(self.state) || is_interruptible(self.saved)
+    }
+
     /// Sends it a signal, which ends an interruptible sleep, or one that is saved, `signal_wake_up`.
     pub fn signal(&mut self) -> Woken
         ensures task { self.new ≡ signalled self.old }

@@ -55,9 +55,11 @@ fn a_waiter_of_a_mutex_is_woken(rt: HostRuntime) -> Result<(), Fail> {
     assert_eq!(rt; cell.key(), second);
     assert_eq!(rt; (cell.wake(), cell.wake()), (Woken::Woke, Woken::Missed));
     cell.rest_again(TaskState::Interruptible);
+    assert!(rt; cell.heeds_signal());
     assert_eq!(rt; (cell.signal(), cell.signalled()), (Woken::Woke, true));
     cell.clear_signal();
     cell.rest_again(TaskState::Uninterruptible);
+    assert!(rt; !cell.heeds_signal());
     assert_eq!(rt; (cell.signal(), cell.signalled()), (Woken::Missed, true));
     cell.lock_wake(false);
     states(&rt, &cell, TaskState::Running, TaskState::Running);
@@ -72,6 +74,7 @@ fn a_waiter_of_a_spinlock_keeps_its_state(rt: HostRuntime) -> Result<(), Fail> {
     cell.set_state(TaskState::Interruptible);
     cell.block(M, TaskState::LockWait);
     states(&rt, &cell, TaskState::LockWait, TaskState::Interruptible);
+    assert!(rt; cell.heeds_signal());
     assert_eq!(rt; cell.wake(), Woken::Woke);
     states(&rt, &cell, TaskState::LockWait, TaskState::Running);
     cell.lock_wake(true);

@@ -4,7 +4,7 @@ ghost use Rattle.rt_model.specs.Parts.{effective_of};
 ghost use Rattle.rt_model.specs.Rows.{row_of};
 ghost use Rattle.rt_model.specs.State.{lock_in, task_in};
 ghost use Rattle.rt_model.specs.StateAfter.{update};
-ghost use Rattle.rt_model.specs.steps.Lock.{queued, taken_by, given_up};
+ghost use Rattle.rt_model.specs.steps.Lock.{queued, left_by, taken_by, given_up};
 
 use crate::shared::Shared;
 use rt_base::{LockId, Prio, TaskId};
@@ -60,6 +60,14 @@ impl Shared {
         enqueue::<Brand>(&mut self.locks[l.0 as usize], t, key, Blank::new(1));
     }
 
+    /// Takes a task's row out of the queue of a lock.
+    pub fn remove(&mut self, l: LockId, t: TaskId)
+        requires { l.0 < length self.old.locks }
+        ensures { self.new ≡ record self.old { locks = update self.old.locks l.0 (left_by t) } }
+    {
+        remove::<Brand>(&mut self.locks[l.0 as usize], t, Blank::new(1));
+    }
+
     /// Gives a lock up.
     pub fn give(&mut self, l: LockId)
         requires { l.0 < length self.old.locks }
@@ -77,6 +85,16 @@ fn take<L: Ledger>(lock: &mut LockCell, t: TaskId, blank: Blank)
     ensures { lock.new ≡ record lock.old { part = taken_by t lock.old.part } }
 {
     let _ = lock.take(t, &mut Steps::<L>::new(blank));
+}
+
+// Takes a task's row out of the queue of a lock. Nobody counts the comparisons.
+fn remove<L: Ledger>(lock: &mut LockCell, t: TaskId, blank: Blank)
+    requires name { blank.name ≡ L.name }
+    requires parts { blank.parts ≡ L.parts }
+    requires some { 0 < L.parts }
+    ensures { lock.new ≡ record lock.old { part = left_by t lock.old.part } }
+{
+    let _ = lock.remove(t, &mut Steps::<L>::new(blank));
 }
 
 // Queues a task with this key. Nobody counts the comparisons.

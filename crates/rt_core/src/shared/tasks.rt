@@ -1,8 +1,8 @@
 // Steps on one task among the shared parts.
-ghost use Rattle.std.specs.Prelude.{◌≡◌, ◌<◌, length, None, Some, IfSome};
+ghost use Rattle.std.specs.Prelude.{◌≡◌, ◌<◌, length, false, None, Some, IfSome};
 ghost use Rattle.rt_model.specs.State.{lock_in};
 ghost use Rattle.rt_model.specs.StateAfter.{update, at_task};
-ghost use Rattle.rt_model.specs.steps.Task.{with_top, with_own, refreshed, blocked_on, leave_queue, lock_woken};
+ghost use Rattle.rt_model.specs.steps.Task.{with_top, with_own, refreshed, blocked_on, leave_queue, woken_up, signalled, lock_woken};
 
 use crate::shared::Shared;
 use rt_base::{LockId, Prio, TaskId, TaskState};
@@ -59,6 +59,30 @@ impl Shared {
         ensures { self.new ≡ record self.old { tasks = update self.old.tasks t.0 (leave_queue spins) } }
     {
         self.tasks[t.0 as usize].leave_queue(spins);
+    }
+
+    /// The signal of a task isn't pending any more.
+    pub fn clear_signal(&mut self, t: TaskId)
+        requires { t.0 < length self.old.tasks }
+        ensures { self.new ≡ record self.old { tasks = update self.old.tasks t.0 (λ task. record task { signal = false }) } }
+    {
+        self.tasks[t.0 as usize].clear_signal();
+    }
+
+    /// A task gets a wakeup.
+    pub fn wake(&mut self, t: TaskId)
+        requires { t.0 < length self.old.tasks }
+        ensures { self.new ≡ record self.old { tasks = update self.old.tasks t.0 woken_up } }
+    {
+        let _ = self.tasks[t.0 as usize].wake();
+    }
+
+    /// A task gets a signal.
+    pub fn signal(&mut self, t: TaskId)
+        requires { t.0 < length self.old.tasks }
+        ensures { self.new ≡ record self.old { tasks = update self.old.tasks t.0 signalled } }
+    {
+        let _ = self.tasks[t.0 as usize].signal();
     }
 
     /// A task, where one is named, gets the wakeup of a lock that is given up.

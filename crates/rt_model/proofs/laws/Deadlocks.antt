@@ -1,95 +1,67 @@
 -- A run's deadlock answers have their cause.
-use Rattle.std.proofs.Common.{◌≡◌, ℕ, Bool, true, false, cond, List, ◌∷◌, refl, sym, ap, ◌∙◌, Option, Some, None}
-use Rattle.std.specs.Prelude.{nat_lt}
+use Rattle.std.proofs.Common.{◌≡◌, ◌⊎◌, inl, inr, ℕ, ◌+◌, List, ◌∷◌, ◌++◌, length, refl, sym, ap, ◌∙◌, subst, None}
 use Rattle.rt_base.specs.declared.call.Call.{Call}
-use Rattle.rt_base.specs.declared.call.Call.TheVariants as calls
 use Rattle.rt_base.specs.declared.id.LockId.{LockId}
 use Rattle.rt_base.specs.declared.id.TaskId.{TaskId}
-use Rattle.rt_base.specs.declared.reply.Reply.{Reply}
 use Rattle.rt_base.specs.declared.reply.Reply.TheVariants as replies
 use Rattle.rt_model.specs.declared.event.Event.{Event}
-use Rattle.rt_model.specs.declared.event_kind.EventKind.TheVariants.{Own}
-use Rattle.rt_model.specs.declared.phase.Phase.{Phase}
-use Rattle.rt_model.specs.declared.phase.Route.{Route}
-use Rattle.rt_model.specs.declared.phase.Route.TheVariants.{Short}
-use Rattle.rt_model.specs.State.{State, owner_part}
-use Rattle.rt_model.specs.steps.Chain.{answer_of_walk}
-use Rattle.rt_model.specs.events.Own.{unless_nested, if_held, if_not_held}
+use Rattle.rt_model.specs.declared.phase.Phase.TheVariants as phases
+use Rattle.rt_model.specs.Rows.{row_of}
+use Rattle.rt_model.specs.State.{State, owner_part, thread_part}
+use Rattle.rt_model.specs.StateAfter.{state_after}
 use Rattle.rt_model.specs.Run.{after, IsRun}
+use Rattle.rt_model.specs.Path.{first_task, IsCycle}
 use Rattle.rt_model.specs.laws.Lawful.{IsLawful}
-use Rattle.rt_model.specs.laws.Deadlocks.{DeadlocksLaw}
-use Rattle.rt_model.proofs.NextEvents.{IsNext, by_own, by_acquire, by_wait, by_release, by_walk, by_setprio}
+use Rattle.rt_model.specs.laws.Deadlocks.{IsHeldItself, IsInCycle, DeadlocksLaw}
+use Rattle.rt_model.proofs.NextEvents.{IsNext}
 use Rattle.rt_model.proofs.events.Own.{IsOwn}
-use Rattle.rt_model.proofs.events.Acquire.{is_fast, is_mark, is_take, is_busy}
-use Rattle.rt_model.proofs.events.Wait.{is_wait, is_again}
-use Rattle.rt_model.proofs.events.Release.{is_free, is_give}
-use Rattle.rt_model.proofs.events.Walk.{WalksIn, by_full, by_short, is_walk, is_walkend}
+use Rattle.rt_model.proofs.graph.Standing.{confirm-cycle, confirm-begins}
+use Rattle.rt_model.proofs.laws.Causes.{EndsWait, by_leave, by_cycle, ends-out, own-held, HasCause, has-cause}
 use Rattle.rt_model.proofs.laws.Holders.{held-owned, holder-told}
-use Rattle.rt_model.proofs.Prefixes.{lawful-there, next-there}
+use Rattle.rt_model.proofs.Prefixes.{lawful-there}
 
--- ---- a thread's own answers
+-- ---- a wait that a cycle ends
 
-held-when : (nested : ℕ) (held : Bool) → unless_nested nested (if_held held) ≡ Some replies.Deadlock → held ≡ true
-held-when nested held is = by_tests (nat_lt 0 nested) held is
-  where
-    by_tests : (b h : Bool) → cond b (Some replies.Nesting) (if_held h) ≡ Some replies.Deadlock → h ≡ true
-    by_tests true h is = cc
-    by_tests false true is = refl
-    by_tests false false is = cc
+-- what holds of the event that ends it
+record EndsByCycle (t : TaskId) (s : State) (e : Event) : Type 0 where
+  cycle : IsCycle s e.path
+  begins : first_task t e.path ≡ t
+  out : (l : LockId) → row_of t (owner_part (state_after s e) l).rows ≡ None
 
-never-deadlock : (held : Bool) → if_not_held held ≡ Some replies.Deadlock → ⊥
-never-deadlock true is = cc
-never-deadlock false is = cc
+ends-cycle : (s : State) (made : ℕ) (t : TaskId) (e : Event) → IsLawful s made → IsNext s t e → EndsWait s t e replies.Deadlock → EndsByCycle t s e
+ends-cycle s made t e lawful next (by_leave l its is) = cc
+ends-cycle s made t e lawful next (by_cycle l path its is) =
+    let same : path ≡ e.path = sym (ap (λ (x : Event). x.path) is.event) in
+    record {
+      cycle = subst (IsCycle s) same (confirm-cycle s t path lawful.walks is.at.at.phased made lawful.kept lawful.rows is.stand);
+      begins = subst (λ (p : List (ℕ × ℕ)). first_task t p ≡ t) same (confirm-begins s t path lawful.walks is.at.at.phased);
+      out = ends-out s made t e replies.Deadlock lawful next (by_cycle l path its is);
+    }
 
--- the event is on a lock that its task owns
-abbrev IsOnOwned : State → TaskId → Event → Type 0
-IsOnOwned s t e = (l : LockId) × (e.lock ≡ Some l) × ((owner_part s l).owner ≡ Some t)
+-- ---- over a run, from a state in which nobody owns a lock, and no task has made a call's first event
 
--- a call that is answered deadlock at once is an acquire of a lock that the task owns
-deadlock-owned : (s : State) (made : ℕ) (t : TaskId) (call : Call) (answer : Reply) (e : Event) → IsLawful s made → IsOwn s t call answer e → answer ≡ replies.Deadlock → IsOnOwned s t e
-deadlock-owned s made t (calls.Lock l) answer e lawful is deadlock = (l, ap (λ (x : Event). x.lock) is.event, held-owned s made t l lawful (held-when _ _ (is.why ∙ ap Some deadlock)))
-deadlock-owned s made t (calls.Unlock l) answer e lawful is deadlock = absurd (never-deadlock _ (is.why ∙ ap Some deadlock))
-deadlock-owned s made t (calls.TryLock l) answer e lawful is deadlock = let why = is.why in cc
-deadlock-owned s made t (calls.SetPrio u prio) answer e lawful is deadlock = let why = is.why in cc
-deadlock-owned s made t _ answer e lawful is deadlock = absurd is.at.served
+module _ (s : State) (made : ℕ) (events : List Event) (lawful : IsLawful s made) (run : IsRun s events) (free : (l : LockId) → (owner_part s l).owner ≡ None) (idle : (t : TaskId) → (thread_part s t).phase ≡ phases.Start) where
+  held-itself : (before rest : List Event) (e : Event) (call : Call) → before ++ e ∷ rest ≡ events → IsOwn (after s before) e.task call replies.Deadlock e → IsHeldItself before e
+  held-itself before rest e call is own =
+      let held = (own-held (after s before) e.task call replies.Deadlock e own refl).1 in
+      let there = lawful-there s made events lawful run before (e ∷ rest) is in
+      record {
+        kind = ap (λ (x : Event). x.kind) own.event;
+        held = (held.0, held.1, holder-told s made events lawful run free before (e ∷ rest) held.0 is ∙ held-owned (after s before) (made + length before) e.task held.0 there held.2);
+      }
 
--- ---- an event answered deadlock
+  by_cause : (before rest : List Event) (e : Event) → before ++ e ∷ rest ≡ events → ((call : Call) × IsOwn (after s before) e.task call replies.Deadlock e) ⊎ HasCause replies.Deadlock EndsByCycle s before e
+      → IsHeldItself before e ⊎ IsInCycle s before e
+  by_cause before rest e is (inl own) = inl (held-itself before rest e own.0 is own.1)
+  by_cause before rest e is (inr cause) = inr (record {
+    prefix = cause.prefix;
+    cause = cause.cause;
+    same_call = cause.same_call;
+    cycle = cause.holds.cycle;
+    begins = cause.holds.begins;
+    out = cause.holds.out;
+  })
 
--- an event with another answer isn't
-other-answer : (e x : Event) → e ≡ x → (x.reply ≡ Some replies.Deadlock → ⊥) → e.reply ≡ Some replies.Deadlock → ⊥
-other-answer e x is other deadlock = other (sym (ap (λ (y : Event). y.reply) is) ∙ deadlock)
-
--- a walk is answered done, where it is answered
-short-done : (next : Option Phase) → answer_of_walk (Short replies.Done) next ≡ Some replies.Deadlock → ⊥
-short-done None is = cc
-short-done (Some phase) is = cc
-
-walk-done : (s : State) (t : TaskId) (route : Route) (u : TaskId) (next : Option Phase) → WalksIn s t route u → answer_of_walk route next ≡ Some replies.Deadlock → ⊥
-walk-done s t route u next (by_full path l same at) is = let full = ap (λ (r : Route). answer_of_walk r next) same in cc
-walk-done s t route u next (by_short v prio same at) is = short-done next (sym (ap (λ (r : Route). answer_of_walk r next) same) ∙ is)
-
-own-deadlock : (s : State) (made : ℕ) (t : TaskId) (e : Event) → IsLawful s made → IsNext s t e → e.reply ≡ Some replies.Deadlock → (e.kind ≡ Own) × IsOnOwned s t e
-own-deadlock s made t e lawful (by_own call answer is) deadlock =
-    (ap (λ (x : Event). x.kind) is.event, deadlock-owned s made t call answer e lawful is (same_answer (sym (ap (λ (x : Event). x.reply) is.event) ∙ deadlock)))
-  where
-    same_answer : Some answer ≡ Some replies.Deadlock → answer ≡ replies.Deadlock
-    same_answer eq = cc
-own-deadlock s made t e lawful (by_acquire l (is_fast is)) deadlock = absurd (other-answer e _ is.event (λ eq. cc) deadlock)
-own-deadlock s made t e lawful (by_acquire l (is_mark is)) deadlock = absurd (other-answer e _ is.event (λ eq. cc) deadlock)
-own-deadlock s made t e lawful (by_acquire l (is_take is)) deadlock = absurd (other-answer e _ is.event (λ eq. cc) deadlock)
-own-deadlock s made t e lawful (by_acquire l (is_busy is)) deadlock = absurd (other-answer e _ is.event (λ eq. cc) deadlock)
-own-deadlock s made t e lawful (by_wait l (is_wait is)) deadlock = absurd (other-answer e _ is.event (λ eq. cc) deadlock)
-own-deadlock s made t e lawful (by_wait l (is_again is)) deadlock = absurd (other-answer e _ is.event (λ eq. cc) deadlock)
-own-deadlock s made t e lawful (by_release l (is_free is)) deadlock = absurd (other-answer e _ is.event (λ eq. cc) deadlock)
-own-deadlock s made t e lawful (by_release l (is_give is)) deadlock = absurd (other-answer e _ is.event (λ eq. cc) deadlock)
-own-deadlock s made t e lawful (by_walk route u (is_walk l key is)) deadlock = absurd (other-answer e _ is.event (walk-done s t route u _ is.how) deadlock)
-own-deadlock s made t e lawful (by_walk route u (is_walkend is)) deadlock = absurd (other-answer e _ is.event (walk-done s t route u _ is.how) deadlock)
-own-deadlock s made t e lawful (by_setprio u prio is) deadlock = absurd (other-answer e _ is.event (short-done _) deadlock)
-
--- ---- over a run, from a state in which nobody owns a lock
-
-pub deadlocks-law : (s : State) (made : ℕ) (events : List Event) → IsLawful s made → IsRun s events → ((l : LockId) → (owner_part s l).owner ≡ None) → DeadlocksLaw events
-deadlocks-law s made events lawful run free = λ before rest e is deadlock.
-    let there = lawful-there s made events lawful run before (e ∷ rest) is in
-    let cause = own-deadlock (after s before) _ e.task e there (next-there s made events lawful run before rest e is) deadlock in
-    record { kind = cause.0; held = (cause.1.0, cause.1.1, holder-told s made events lawful run free before (e ∷ rest) cause.1.0 is ∙ cause.1.2) }
+  pub deadlocks-law : DeadlocksLaw s events
+  deadlocks-law = λ before rest e is deadlock.
+      by_cause before rest e is (has-cause replies.Deadlock EndsByCycle refl (λ s made e lawful next ended. ends-cycle s made e.task e lawful next ended) s made events lawful run idle before rest e is deadlock)

@@ -8,13 +8,14 @@ use Rattle.rt_base.specs.declared.id.TaskId.{TaskId}
 use Rattle.rt_model.specs.declared.event.Event.{Event}
 use Rattle.rt_model.specs.declared.event_kind.EventKind.{EventKind}
 use Rattle.rt_model.specs.declared.event_kind.EventKind.TheVariants as kinds
+use Rattle.rt_model.specs.declared.phase.Phase.TheVariants as phases
 use Rattle.rt_model.specs.declared.phase.Route.{Route}
 use Rattle.rt_model.specs.declared.row.Row.{Row}
 use Rattle.rt_model.specs.Parts.{OwnerPart, TaskPart, ThreadPart, call_of, effective_of, kind_of, kind_named}
 use Rattle.rt_model.specs.Rows.{top_key, top_changed, without}
 use Rattle.rt_model.specs.State.{State, shared, owner_part, task_part, thread_part}
-use Rattle.rt_model.specs.steps.Task.{with_top, refreshed, rest_of, blocked_on, leave_queue, lock_woken}
-use Rattle.rt_model.specs.steps.Lock.{taken_by, queued}
+use Rattle.rt_model.specs.steps.Task.{with_top, refreshed, rest_of, blocked_on, leave_queue, interrupted, woken_by, lock_woken}
+use Rattle.rt_model.specs.steps.Lock.{left_by, taken_by, queued}
 use Rattle.rt_model.specs.steps.Chain.{requeued_where_old, refreshed_where_changed}
 use Rattle.rt_model.specs.Effect.{Around}
 use Rattle.rt_model.specs.Rules.{touched, effect}
@@ -22,16 +23,18 @@ use Rattle.rt_model.specs.StateAfter.{effect_in, state_after}
 use Rattle.rt_model.specs.laws.Lawful.{IsLawful}
 use Rattle.rt_model.specs.laws.KeptTops.{KeptTopsLaw, kept_of}
 use Rattle.rt_model.specs.laws.Owners.{owned_by}
-use Rattle.rt_model.proofs.CellStepLemmas.{leave_queue-like, lock_woken-like, blocked_on-like, where_changed}
-use Rattle.rt_model.proofs.NextEvents.{IsNext, by_own, by_acquire, by_wait, by_release, by_walk, by_setprio}
+use Rattle.rt_model.proofs.CellStepLemmas.{leave_queue-like, interrupted-like, woken_by-like, lock_woken-like, blocked_on-like, where_changed}
+use Rattle.rt_model.proofs.NextEvents.{IsNext, by_own, by_acquire, by_wait, by_release, by_walk, by_confirm, by_signal, by_setprio}
 use Rattle.rt_model.proofs.events.Acquire.{IsTake, is_fast, is_mark, is_take, is_busy}
-use Rattle.rt_model.proofs.events.Wait.{IsWait, is_wait, is_again}
+use Rattle.rt_model.proofs.events.Wait.{IsWait, is_wait, is_again, is_leave}
 use Rattle.rt_model.proofs.events.Release.{IsGive, is_free, is_give}
-use Rattle.rt_model.proofs.events.Walk.{IsWalk, is_walk, is_walkend}
+use Rattle.rt_model.proofs.events.Walk.{IsWalk, is_walk, is_walkend, is_restart, is_cycle}
+use Rattle.rt_model.proofs.Calling.{asks-lock}
+use Rattle.rt_model.proofs.Leaves.{IsLeft, left_made, left-is, leave-left, cycle-left, left-unowned, left-lock_there, left-locks, left-own_like, left-others}
 use Rattle.rt_model.proofs.Links.{requeued-owner, link_refreshed, link-like}
 use Rattle.rt_model.proofs.PartsAfter.{read-set_same, read-set_other, OthersKeep, lock-made, lock-kept, task-keeps, own-made, owner-made}
 use Rattle.rt_model.proofs.Within.{owner_within, owner_room, kept_room, task_room}
-use Rattle.rt_model.proofs.Numbers.{one_owner, owner-holds, number_itself}
+use Rattle.rt_model.proofs.Numbers.{at_each_task, one_owner, owner-holds, number_itself}
 use Rattle.rt_model.proofs.Queues.{unowned-can_take, unchanged-key}
 use Rattle.rt_model.proofs.Waiters.{walk-link}
 
@@ -63,6 +66,8 @@ nothing rows false is = refl
 abbrev tops_of : EventKind → Event → Option LockId
 tops_of kinds.Take e = e.lock
 tops_of kinds.Wait e = e.lock
+tops_of kinds.Leave e = e.lock
+tops_of kinds.Cycle e = e.lock
 tops_of kinds.Give e = e.lock
 tops_of kinds.Walk e = e.lock
 tops_of _ e = None
@@ -74,11 +79,19 @@ there-own m top kinds.Take e th ne found lock task was =
     with_top-there e.lock m (top_key lock.rows) left ne ∙ (kept-same m task left (leave_queue-like (spins (kind_named th e.lock)) task).kept ∙ was)
 there-own m top kinds.Wait e th ne found lock task was =
     let rest = rest_of (kind_named th e.lock) (call_of th) in kept-same m task (blocked_on e.lock rest task) (blocked_on-like e.lock rest task).kept ∙ was
+there-own m top kinds.Leave e th ne found lock task was =
+    let spinning : Bool = spins (kind_named th e.lock) in kept-same m task (interrupted spinning task) (interrupted-like spinning task).kept ∙ was
+there-own m top kinds.Cycle e th ne found lock task was =
+    let spinning : Bool = spins (kind_named th e.lock) in kept-same m task (leave_queue spinning task) (leave_queue-like spinning task).kept ∙ was
 there-own m top kinds.Give e th ne found lock task was = with_top-there e.lock m None task ne ∙ was
 there-own m top _ e th ne found lock task was = was
 
 there-others : (m : LockId) (top : Option ℕ) (kind : EventKind) (e : Event) (th : ThreadPart) → IsApartFrom m (tops_of kind e) → (found : Around) (lock : OwnerPart) → OthersKeep (λ task. kept_of task m ≡ top) (effect kind e th found) lock
 there-others m top kinds.Wait e th ne found lock = record { owner = λ task was. with_top-there e.lock m (top_key lock.rows) task ne ∙ was; other = λ task was. was; woken = λ task was. was }
+there-others m top kinds.Leave e th ne found lock = record { owner = λ task was. with_top-there e.lock m (top_key lock.rows) task ne ∙ was; other = λ task was. was; woken = λ task was. was }
+there-others m top kinds.Cycle e th ne found lock = record { owner = λ task was. with_top-there e.lock m (top_key lock.rows) task ne ∙ was; other = λ task was. was; woken = λ task was. was }
+there-others m top kinds.Wake e th ne found lock =
+    record { owner = λ task was. was; other = λ task was. kept-same m task (woken_by e.value task) (woken_by-like e.value task).like.kept ∙ was; woken = λ task was. was }
 there-others m top kinds.Walk e th ne found lock =
     let spinning : Bool = spins (kind_named th e.lock) in
     record {
@@ -95,6 +108,8 @@ there-others m top _ e th ne found lock = record { owner = λ task was. was; oth
 apart-on : (m l : LockId) (kind : EventKind) (e : Event) → e.lock ≡ Some l → nat_eq l.0 m.0 ≡ false → IsApartFrom m (tops_of kind e)
 apart-on m l kinds.Take e on ne = subst (IsApartFrom m) (sym on) ne
 apart-on m l kinds.Wait e on ne = subst (IsApartFrom m) (sym on) ne
+apart-on m l kinds.Leave e on ne = subst (IsApartFrom m) (sym on) ne
+apart-on m l kinds.Cycle e on ne = subst (IsApartFrom m) (sym on) ne
 apart-on m l kinds.Give e on ne = subst (IsApartFrom m) (sym on) ne
 apart-on m l kinds.Walk e on ne = subst (IsApartFrom m) (sym on) ne
 apart-on m l _ e on ne = tt
@@ -139,12 +154,33 @@ module _ (s : State) (made : ℕ) (t : TaskId) (e : Event) (u : TaskId) (lawful 
       let rows : List Row = (queued t (effective_of (task_part s t)) (owner_part s l)).rows in
       let owner : Option TaskId = (owner_part s l).owner in
       let rest = rest_of (kind_of (thread_part s t) l) (call_of (thread_part s t)) in
+      let lock = asks-lock s t phases.Slow l is.at in
       let kept = (task_part s u).kept in
-      owner-made (λ task. kept_of task l ≡ cond (owned_by owner u) (top_key rows) None) (λ task. task.kept ≡ kept) s e _ u is.event (owner_room s l lawful.shape is.at.served) refl
+      owner-made (λ task. kept_of task l ≡ cond (owned_by owner u) (top_key rows) None) (λ task. task.kept ≡ kept) s e _ u is.event (owner_room s l lawful.shape lock) refl
       (λ task was. (blocked_on-like (Some l) rest task).kept ∙ was)
-      (λ task was mine. with_top-here l (top_key rows) task (subst (λ (old : List (Option ℕ)). l.0 < length old) (sym was) (owned_room l is.at.served mine)) ∙ sym (cond-true (owned_by owner u) (top_key rows) None mine))
+      (λ task was mine. with_top-here l (top_key rows) task (subst (λ (old : List (Option ℕ)). l.0 < length old) (sym was) (owned_room l lock mine)) ∙ sym (cond-true (owned_by owner u) (top_key rows) None mine))
       (λ task was others. kept-same l (task_part s u) task was ∙ (lawful.kept l u ∙ (cond-false (owned_by owner u) (top_key (owner_part s l).rows) None others ∙ sym (cond-false (owned_by owner u) (top_key rows) None others))))
       (λ task was. was) (λ task was. was)
+
+  left-here : (l : LockId) (is : IsLeft s t l e) → KeepsTop l u (left_by t (owner_part s l)) (task_part (state_after s e) u)
+  left-here l is =
+      at_each_task (λ v. kept_of (task_part (state_after s e) v) l ≡ cond (owned_by owner v) (top_key rows) None) t u
+      (kept-same l (task_part s t) (task_part (state_after s e) t) (left-own_like s made t l e lawful is).kept
+      ∙ (lawful.kept l t ∙ (cond-false (owned_by owner t) (top_key (owner_part s l).rows) None unowned ∙ sym (cond-false (owned_by owner t) (top_key rows) None unowned))))
+      (λ ne. ap (λ (task : TaskPart). kept_of task l) (left-others s made t l e lawful is u ne) ∙ refreshed-or_not (owned_by owner u) refl)
+    where
+      owner : Option TaskId
+      owner = (owner_part s l).owner
+
+      rows : List Row
+      rows = (left_by t (owner_part s l)).rows
+
+      unowned : owned_by owner t ≡ false
+      unowned = left-unowned s made t l e lawful is
+
+      refreshed-or_not : (b : Bool) → owned_by owner u ≡ b → kept_of (cond b (refreshed (Some l) rows (task_part s u)) (task_part s u)) l ≡ cond b (top_key rows) None
+      refreshed-or_not true mine = with_top-here l (top_key rows) (task_part s u) (owned_room l (left-lock_there s made t l e lawful is) mine)
+      refreshed-or_not false others = lawful.kept l u ∙ cond-false (owned_by owner u) (top_key (owner_part s l).rows) None others
 
   walk-here : (route : Route) (cursor : TaskId) (l : LockId) (key : ℕ) → IsWalk s t route cursor l key e → KeepsTop l u (requeued_where_old (Some cursor) (task_part s cursor) (owner_part s l)) (task_part (state_after s e) u)
   walk-here route cursor l key is =
@@ -182,13 +218,22 @@ KeptTopsLaw-next s made t e lawful next m u = by_kind next
     Keeps : OwnerPart → Type 0
     Keeps lock = KeepsTop m u lock (task_part (state_after s e) u)
 
+    left : (l : LockId) → IsLeft s t l e → Keeps (owner_part (state_after s e) m)
+    left l is =
+        left-locks s made t l e lawful is (λ k lock. KeepsTop k u lock (task_part (state_after s e) u)) m (left-here s made t e u lawful l is)
+        (λ there. same s made t e u lawful (left_made s t l e is) m (left-is s t l e is) (apart-on m l (left_made s t l e is).kind (left_made s t l e is) refl there))
+
     by_kind : IsNext s t e → Keeps (owner_part (state_after s e) m)
     by_kind (by_own call answer is) = lock-kept Keeps s e _ m is.event (same s made t e u lawful _ m is.event tt) (λ lock was. was)
     by_kind (by_acquire l (is_mark is)) = lock-kept Keeps s e _ m is.event (same s made t e u lawful _ m is.event tt) (λ lock was. was)
     by_kind (by_wait l (is_again is)) = lock-kept Keeps s e _ m is.event (same s made t e u lawful _ m is.event tt) (λ lock was. was)
     by_kind (by_acquire l (is_busy is)) = lock-kept Keeps s e _ m is.event (same s made t e u lawful _ m is.event tt) (λ lock was. was)
     by_kind (by_walk route cursor (is_walkend is)) = lock-kept Keeps s e _ m is.event (same s made t e u lawful _ m is.event tt) (λ lock was. was)
+    by_kind (by_confirm l path (is_restart link is)) = lock-kept Keeps s e _ m is.event (same s made t e u lawful _ m is.event tt) (λ lock was. was)
+    by_kind (by_signal target is) = lock-kept Keeps s e _ m is.event (same s made t e u lawful _ m is.event tt) (λ lock was. was)
     by_kind (by_setprio target prio is) = lock-kept Keeps s e _ m is.event (same s made t e u lawful _ m is.event tt) (λ lock was. was)
+    by_kind (by_wait l (is_leave is)) = left l (leave-left s t l e is)
+    by_kind (by_confirm l path (is_cycle is)) = left l (cycle-left s made t l path e lawful is)
     by_kind (by_acquire l (is_fast is)) =
         let none : (owner_part s l).rows ≡ [] = (lawful.rows.queue l).clear is.bit in
         on_lock s made t e u lawful _ l m is.event refl refl is.lock
@@ -197,7 +242,7 @@ KeptTopsLaw-next s made t e lawful next m u = by_kind next
         let none : (owner_part s l).rows ≡ [] = (lawful.rows.queue l).clear is.bit in
         on_lock s made t e u lawful _ l m is.event refl refl is.at.served (same s made t e u lawful _ l is.event tt ∙ nothing (owner_part s l).rows (owned_by (owner_part s l).owner u) none)
     by_kind (by_acquire l (is_take is)) = on_lock s made t e u lawful _ l m is.event refl refl is.lock (take-here s made t e u lawful l is)
-    by_kind (by_wait l (is_wait is)) = on_lock s made t e u lawful _ l m is.event refl refl is.at.served (wait-here s made t e u lawful l is)
+    by_kind (by_wait l (is_wait is)) = on_lock s made t e u lawful _ l m is.event refl refl (asks-lock s t phases.Slow l is.at) (wait-here s made t e u lawful l is)
     by_kind (by_walk route cursor (is_walk l key is)) =
         on_lock s made t e u lawful _ l m is.event refl refl (walk-link s made t route cursor l key e lawful is).lock (walk-here s made t e u lawful route cursor l key is)
     by_kind (by_release l (is_give is)) = on_lock s made t e u lawful _ l m is.event refl refl is.at.served (give-here s made t e u lawful l is)

@@ -1,32 +1,33 @@
 -- A next event keeps the rows law.
-use Rattle.std.proofs.Common.{◌≡◌, ℕ, suc, ◌<◌, ◌≤◌, true, false, length, List, refl, sym, ap, ◌∙◌, arith, Option, Some, None, Bool, []}
+use Rattle.std.proofs.Common.{◌≡◌, ℕ, suc, ◌≤◌, true, false, List, refl, sym, ap, ◌∙◌, arith, Option, Some, None, Bool, []}
 use Rattle.std.specs.Prelude.{nat_eq, option_map}
 use Rattle.std.proofs.lemmas.Bool.{cond_both}
-use Rattle.rt_base.specs.declared.call.Call.TheVariants as calls
 use Rattle.rt_base.specs.declared.id.LockId.{LockId}
 use Rattle.rt_base.specs.declared.id.TaskId.{TaskId}
 use Rattle.rt_model.specs.declared.event.Event.{Event}
+use Rattle.rt_model.specs.declared.phase.Phase.TheVariants as phases
 use Rattle.rt_model.specs.declared.phase.Route.{Route}
 use Rattle.rt_model.specs.declared.row.Row.{Row}
 use Rattle.rt_model.specs.Parts.{OwnerPart, TaskPart, effective_of}
 use Rattle.rt_model.specs.Rows.{queued_key, without, has_rows}
-use Rattle.rt_model.specs.State.{State, shared, owner_part, task_part, thread_part}
-use Rattle.rt_model.specs.steps.Lock.{queued, left_by, requeued}
+use Rattle.rt_model.specs.State.{State, owner_part, task_part}
+use Rattle.rt_model.specs.steps.Lock.{queued, left_by, taken_by, requeued}
 use Rattle.rt_model.specs.steps.Chain.{has_old_key, requeued_where_old}
-use Rattle.rt_model.specs.Rules.{touched}
-use Rattle.rt_model.specs.StateAfter.{effect_in, state_after}
+use Rattle.rt_model.specs.StateAfter.{state_after}
 use Rattle.rt_model.specs.laws.Rows.{IsQueue, RowsLaw, key_at}
 use Rattle.rt_model.specs.laws.Lawful.{IsLawful}
 use Rattle.rt_model.proofs.Blocked.{moves, requeues, rows-kept, blocked-kept, blocked-other, take-blocked, wait-blocked}
+use Rattle.rt_model.proofs.Calling.{asks-lock}
+use Rattle.rt_model.proofs.Leaves.{IsLeft, leave-left, cycle-left, left-locks, left-blocked, left-own_blocked, left-blocked_other}
 use Rattle.rt_model.proofs.PartsAfter.{lock-made, lock-kept}
-use Rattle.rt_model.proofs.NextEvents.{IsNext, by_own, by_acquire, by_wait, by_release, by_walk, by_setprio}
+use Rattle.rt_model.proofs.NextEvents.{IsNext, by_own, by_acquire, by_wait, by_release, by_walk, by_confirm, by_signal, by_setprio}
 use Rattle.rt_model.proofs.events.Acquire.{IsTake, is_fast, is_mark, is_take, is_busy}
-use Rattle.rt_model.proofs.events.Wait.{IsWait, is_wait, is_again}
+use Rattle.rt_model.proofs.events.Wait.{IsWait, is_wait, is_again, is_leave}
 use Rattle.rt_model.proofs.events.Release.{is_free, is_give}
-use Rattle.rt_model.proofs.events.Walk.{IsWalk, is_walk, is_walkend}
+use Rattle.rt_model.proofs.events.Walk.{IsWalk, is_walk, is_walkend, is_restart, is_cycle}
 use Rattle.rt_model.proofs.Links.{link-locks, link-blocked, link-blocked_other}
 use Rattle.rt_model.proofs.Queues.{none_of, queue-ordered, insert-ordered, without-ordered, where_old-queue, where_old-key, where_old-other, row_of-insert, row_of-insert_other, row_of-without, row_of-without_other, no_rows}
-use Rattle.rt_model.proofs.Waiters.{take-elsewhere, slow-nowhere, slow-unqueued, walk-link}
+use Rattle.rt_model.proofs.Waiters.{blocking, key_elsewhere, take-elsewhere, slow-nowhere, slow-unqueued}
 use Rattle.rt_model.proofs.Numbers.{number_itself, at_each_task}
 
 -- ---- where a task is queued
@@ -52,8 +53,9 @@ pub record IsQueueAt (made : ℕ) (lock : OwnerPart) : Type 0 where
 same_rows : (made : ℕ) (lock : OwnerPart) (owner : Option TaskId) (bit : Bool) → (bit ≡ false → lock.rows ≡ []) → IsQueueAt made lock → IsQueueAt (suc made) (record lock { owner = owner; bit = bit })
 same_rows made lock owner bit clear is = let ticket = is.ticket in record { queue = record { clear = clear; order = is.queue.order; tickets = is.queue.tickets }; ticket = omega arith }
 
-taken : (made : ℕ) (t : TaskId) (lock : OwnerPart) → IsQueueAt made lock → IsQueueAt (suc made) (record (left_by t lock) { owner = Some t })
-taken made t lock is =
+-- a task leaves, whoever owns the lock then
+fewer : (made : ℕ) (t : TaskId) (lock : OwnerPart) (owner : Option TaskId) → IsQueueAt made lock → IsQueueAt (suc made) (record (left_by t lock) { owner = owner })
+fewer made t lock owner is =
     let ticket = is.ticket in
     let ordered = without-ordered t lock.ticket lock.rows (queue-ordered lock is.queue) in
     record { queue = record { clear = no_rows (without t lock.rows); order = ordered.order; tickets = ordered.tickets }; ticket = omega arith }
@@ -88,16 +90,25 @@ queue-next s made t e m lawful next = by_kind next
     same : (k : LockId) → IsQueueAt (suc made) (owner_part s k)
     same k = stays k (owner_part s k).owner (owner_part s k).bit (was k).queue.clear
 
+    left : (l : LockId) → IsLeft s t l e → Queue m (owner_part (state_after s e) m)
+    left l is = left-locks s made t l e lawful is Queue m (fewer made t (owner_part s l) (owner_part s l).owner (was l)) (λ there. same m)
+
     by_kind : IsNext s t e → Queue m (owner_part (state_after s e) m)
     by_kind (by_own call answer is) = lock-kept (Queue m) s e _ m is.event (same m) (λ lock was. was)
     by_kind (by_wait l (is_again is)) = lock-kept (Queue m) s e _ m is.event (same m) (λ lock was. was)
     by_kind (by_acquire l (is_busy is)) = lock-kept (Queue m) s e _ m is.event (same m) (λ lock was. was)
     by_kind (by_walk route u (is_walkend is)) = lock-kept (Queue m) s e _ m is.event (same m) (λ lock was. was)
+    by_kind (by_confirm l path (is_restart link is)) = lock-kept (Queue m) s e _ m is.event (same m) (λ lock was. was)
+    by_kind (by_signal u is) = lock-kept (Queue m) s e _ m is.event (same m) (λ lock was. was)
     by_kind (by_setprio u prio is) = lock-kept (Queue m) s e _ m is.event (same m) (λ lock was. was)
+    by_kind (by_wait l (is_leave is)) = left l (leave-left s t l e is)
+    by_kind (by_confirm l path (is_cycle is)) = left l (cycle-left s made t l path e lawful is)
     by_kind (by_acquire l (is_fast is)) = lock-made Queue s e _ l m is.event refl is.lock (stays l (Some t) (owner_part s l).bit (was l).queue.clear) (λ there. same m)
-    by_kind (by_acquire l (is_mark is)) = lock-made Queue s e _ l m is.event refl is.at.served (stays l (owner_part s l).owner true (λ clear. absurd cc)) (λ there. same m)
-    by_kind (by_acquire l (is_take is)) = lock-made Queue s e _ l m is.event refl is.lock (taken made t (owner_part s l) (was l)) (λ there. same m)
-    by_kind (by_wait l (is_wait is)) = lock-made Queue s e _ l m is.event refl is.at.served (more made t (effective_of (task_part s t)) (owner_part s l) (slow-unqueued s made t lawful l (calls.Lock l) is.at) (was l)) (λ there. same m)
+    by_kind (by_acquire l (is_mark is)) = lock-made Queue s e _ l m is.event refl (asks-lock s t phases.Start l is.at) (stays l (owner_part s l).owner true (λ clear. absurd cc)) (λ there. same m)
+    by_kind (by_acquire l (is_take is)) = lock-made Queue s e _ l m is.event refl is.lock (fewer made t (owner_part s l) (Some t) (was l)) (λ there. same m)
+    by_kind (by_wait l (is_wait is)) =
+        lock-made Queue s e _ l m is.event refl (asks-lock s t phases.Slow l is.at)
+        (more made t (effective_of (task_part s t)) (owner_part s l) (slow-unqueued s made t lawful l is.at.call is.at.at) (was l)) (λ there. same m)
     by_kind (by_walk route u (is_walk l key is)) =
         link-locks s made t route u l key e lawful is Queue m (anew made u (task_part s u) key (owner_part s l) (blocked-queued s made u l key lawful.rows is.blocked) (was l)) (λ there. same m)
     by_kind (by_release l (is_free is)) = lock-made Queue s e _ l m is.event refl is.at.served (stays l None (owner_part s l).bit (was l).queue.clear) (λ there. same m)
@@ -109,20 +120,17 @@ queue-next s made t e m lawful next = by_kind next
 abbrev HasRow : LockId → TaskId → List Row → Option (LockId × ℕ) → Type 0
 HasRow m u rows blocked = queued_key u rows ≡ key_at blocked m
 
--- where an event x, on lock l, changes what task w is blocked on, and the rows of l by the row of w
-row-moved : (s : State) (e x : Event) (l m : LockId) (w u : TaskId) (b : Option (LockId × ℕ)) → ((k : LockId) (v : TaskId) → HasRow k v (owner_part s k).rows (task_part s v).blocked) → e ≡ x
-    → (touched x.kind x).lock ≡ Some l → l.0 < length s.locks → (task_part (state_after s e) w).blocked ≡ b → HasRow l w ((effect_in (shared s) (thread_part s x.task) x).lock (owner_part s l)).rows b
-    → (nat_eq w.0 u.0 ≡ false → (task_part (state_after s e) u).blocked ≡ (task_part s u).blocked)
-    → (nat_eq w.0 u.0 ≡ false → queued_key u ((effect_in (shared s) (thread_part s x.task) x).lock (owner_part s l)).rows ≡ queued_key u (owner_part s l).rows)
-    → (nat_eq l.0 m.0 ≡ false → key_at (task_part s w).blocked m ≡ key_at b m) → HasRow m u (owner_part (state_after s e) m).rows (task_part (state_after s e) u).blocked
-row-moved s e x l m w u b law is named lt at own kept others elsewhere =
-    lock-made (λ k lock. HasRow k u lock.rows (task_part (state_after s e) u).blocked) s e x l m is named lt
-    (at_each_task (λ v. HasRow l v rows (task_part (state_after s e) v).blocked) w u (own ∙ its l) (λ ne. others ne ∙ (law l u ∙ anothers l ne)))
+-- where an event changes what task w is blocked on, and leaves lock l so, with the row of w changed
+row-moved : (s : State) (e : Event) (l m : LockId) (w u : TaskId) (b : Option (LockId × ℕ)) (left : OwnerPart) → ((k : LockId) (v : TaskId) → HasRow k v (owner_part s k).rows (task_part s v).blocked)
+    → ((P : LockId → OwnerPart → Type 0) → P l left → (nat_eq l.0 m.0 ≡ false → P m (owner_part s m)) → P m (owner_part (state_after s e) m))
+    → (task_part (state_after s e) w).blocked ≡ b → HasRow l w left.rows b → (nat_eq w.0 u.0 ≡ false → (task_part (state_after s e) u).blocked ≡ (task_part s u).blocked)
+    → (nat_eq w.0 u.0 ≡ false → queued_key u left.rows ≡ queued_key u (owner_part s l).rows) → (nat_eq l.0 m.0 ≡ false → key_at (task_part s w).blocked m ≡ key_at b m)
+    → HasRow m u (owner_part (state_after s e) m).rows (task_part (state_after s e) u).blocked
+row-moved s e l m w u b left law reads at own kept others elsewhere =
+    reads (λ k lock. HasRow k u lock.rows (task_part (state_after s e) u).blocked)
+    (at_each_task (λ v. HasRow l v left.rows (task_part (state_after s e) v).blocked) w u (own ∙ its l) (λ ne. others ne ∙ (law l u ∙ anothers l ne)))
     (λ there. at_each_task (λ v. HasRow m v (owner_part s m).rows (task_part (state_after s e) v).blocked) w u (law m w ∙ (elsewhere there ∙ its m)) (λ ne. law m u ∙ anothers m ne))
   where
-    rows : List Row
-    rows = ((effect_in (shared s) (thread_part s x.task) x).lock (owner_part s l)).rows
-
     its : (k : LockId) → key_at b k ≡ key_at (task_part (state_after s e) w).blocked k
     its k = sym (ap (λ (c : Option (LockId × ℕ)). key_at c k) at)
 
@@ -142,24 +150,33 @@ module _ (s : State) (made : ℕ) (t : TaskId) (e : Event) (m : LockId) (u : Tas
 
   take-row : (l : LockId) → IsTake s t l e → RowLeft
   take-row l is =
-      row-moved s e _ l m t u None lawful.rows.rows is.event refl is.lock (take-blocked s t e l lawful.shape is) (key-of (row_of-without t (owner_part s l).rows))
+      row-moved s e l m t u None (taken_by t (owner_part s l)) lawful.rows.rows (λ P. lock-made P s e _ l m is.event refl is.lock)
+      (take-blocked s t e l lawful.shape is) (key-of (row_of-without t (owner_part s l).rows))
       (blocked-still s t e _ u is.event refl refl) (λ ne. key-of (row_of-without_other t u (owner_part s l).rows ne)) (take-elsewhere s made t lawful l m is.how)
+
+  left-row : (l : LockId) → IsLeft s t l e → RowLeft
+  left-row l is =
+      row-moved s e l m t u None (left_by t (owner_part s l)) lawful.rows.rows (λ P. left-locks s made t l e lawful is P m)
+      (left-own_blocked s made t l e lawful is) (key-of (row_of-without t (owner_part s l).rows))
+      (left-blocked_other s made t l e lawful is u) (λ ne. key-of (row_of-without_other t u (owner_part s l).rows ne))
+      (key_elsewhere (task_part s t).blocked l m (ap blocking (left-blocked s made t l e lawful is).1))
 
   wait-row : (l : LockId) → IsWait s t l e → RowLeft
   wait-row l is =
       let key : ℕ = effective_of (task_part s t) in
       let row : Row = record { key = key; ticket = (owner_part s l).ticket; who = t.0 } in
-      let none = none_of t (owner_part s l).rows (slow-unqueued s made t lawful l (calls.Lock l) is.at) in
-      row-moved s e _ l m t u (Some (l, key)) lawful.rows.rows is.event refl is.at.served (wait-blocked s t e l lawful.shape is)
-      (key-of (row_of-insert t row (owner_part s l).rows (number_itself t.0) none) ∙ key_there l key)
-      (blocked-still s t e _ u is.event refl refl) (λ ne. key-of (row_of-insert_other u row (owner_part s l).rows ne)) (λ there. slow-nowhere s made t lawful m (calls.Lock l) is.at ∙ key_not_there l m key there)
+      let none = none_of t (owner_part s l).rows (slow-unqueued s made t lawful l is.at.call is.at.at) in
+      row-moved s e l m t u (Some (l, key)) (queued t key (owner_part s l)) lawful.rows.rows (λ P. lock-made P s e _ l m is.event refl (asks-lock s t phases.Slow l is.at))
+      (wait-blocked s t e l lawful.shape is) (key-of (row_of-insert t row (owner_part s l).rows (number_itself t.0) none) ∙ key_there l key)
+      (blocked-still s t e _ u is.event refl refl) (λ ne. key-of (row_of-insert_other u row (owner_part s l).rows ne))
+      (λ there. slow-nowhere s made t lawful m is.at.call is.at.at ∙ key_not_there l m key there)
 
   -- here it is the cursor that moves
   walk-row : (route : Route) (cursor : TaskId) (l : LockId) (key : ℕ) → IsWalk s t route cursor l key e → RowLeft
   walk-row route cursor l key is =
       let task : TaskPart = task_part s cursor in
-      let there = walk-link s made t route cursor l key e lawful is in
-      row-moved s e _ l m cursor u (Some (l, effective_of task)) lawful.rows.rows is.event refl there.lock (link-blocked s made t route cursor l key e lawful is)
+      row-moved s e l m cursor u (Some (l, effective_of task)) (requeued_where_old (Some cursor) task (owner_part s l)) lawful.rows.rows
+      (λ P. link-locks s made t route cursor l key e lawful is P m) (link-blocked s made t route cursor l key e lawful is)
       (where_old-key cursor task (owner_part s l) l key is.blocked (blocked-queued s made cursor l key lawful.rows is.blocked) ∙ key_there l (effective_of task))
       (link-blocked_other s made t route cursor l key e lawful is u) (λ ne. key-of (where_old-other cursor task (owner_part s l) u ne))
       (λ apart. ap (λ (b : Option (LockId × ℕ)). key_at b m) is.blocked ∙ (sym (key_not_there l m key apart) ∙ key_not_there l m (effective_of task) apart))
@@ -172,12 +189,16 @@ module _ (s : State) (made : ℕ) (t : TaskId) (e : Event) (m : LockId) (u : Tas
   row-next (by_acquire l (is_take is)) = take-row l is
   row-next (by_wait l (is_wait is)) = wait-row l is
   row-next (by_walk route cursor (is_walk l key is)) = walk-row route cursor l key is
+  row-next (by_wait l (is_leave is)) = left-row l (leave-left s t l e is)
+  row-next (by_confirm l path (is_cycle is)) = left-row l (cycle-left s made t l path e lawful is)
   row-next (by_own call answer is) = still _ is.event refl
   row-next (by_acquire l (is_fast is)) = still _ is.event refl
   row-next (by_acquire l (is_mark is)) = still _ is.event refl
   row-next (by_acquire l (is_busy is)) = still _ is.event refl
   row-next (by_wait l (is_again is)) = still _ is.event refl
   row-next (by_walk route cursor (is_walkend is)) = still _ is.event refl
+  row-next (by_confirm l path (is_restart link is)) = still _ is.event refl
+  row-next (by_signal target is) = still _ is.event refl
   row-next (by_setprio target prio is) = still _ is.event refl
   row-next (by_release l (is_free is)) = still _ is.event refl
   row-next (by_release l (is_give is)) = still _ is.event refl

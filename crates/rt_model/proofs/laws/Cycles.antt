@@ -1,0 +1,163 @@
+-- A run passes over no cycle.
+use Rattle.std.proofs.Common.{◌≡◌, ◌≢◌, ◌⊎◌, inl, inr, ℕ, ◌+◌, Bool, true, false, List, ◌∷◌, length, refl, sym, ap, ◌∙◌, subst, Some, None}
+use Rattle.rt_base.specs.declared.id.LockId.{LockId}
+use Rattle.rt_base.specs.declared.id.TaskId.{TaskId}
+use Rattle.rt_model.specs.declared.event.Event.{Event}
+use Rattle.rt_model.specs.declared.event_kind.EventKind.{EventKind}
+use Rattle.rt_model.specs.declared.event_kind.EventKind.TheVariants as kinds
+use Rattle.rt_model.specs.declared.phase.Phase.{Phase}
+use Rattle.rt_model.specs.declared.phase.Phase.TheVariants as phases
+use Rattle.rt_model.specs.declared.phase.Route.{Route}
+use Rattle.rt_model.specs.declared.phase.Route.TheVariants.{Full, Short}
+use Rattle.rt_model.specs.Parts.{ThreadPart}
+use Rattle.rt_model.specs.State.{State, task_part, thread_part}
+use Rattle.rt_model.specs.StateAfter.{state_after}
+use Rattle.rt_model.specs.Run.{after, IsRun}
+use Rattle.rt_model.specs.Path.{first_task, links_of, IsCycle}
+use Rattle.rt_model.specs.laws.Lawful.{IsLawful}
+use Rattle.rt_model.specs.laws.Responsible.{IsAlong, IsResponsible}
+use Rattle.rt_model.specs.laws.Cycles.{IsWalkAlong, TellsCycle, NamesBroken, CyclesLaw}
+use Rattle.rt_model.proofs.NextEvents.{IsNext, by_own, by_acquire, by_wait, by_release, by_walk, by_confirm, by_signal, by_setprio}
+use Rattle.rt_model.proofs.PartsAfter.{thread-other}
+use Rattle.rt_model.proofs.Waiters.{blocking}
+use Rattle.rt_model.proofs.events.Acquire.{AcquiresIn, by_lock, by_trylock, TakesIn, from_slow, from_wait, from_trylock, is_fast, is_mark, is_take, is_busy}
+use Rattle.rt_model.proofs.events.Release.{is_free, is_give}
+use Rattle.rt_model.proofs.events.Wait.{is_wait, is_again, is_leave}
+use Rattle.rt_model.proofs.events.Walk.{WalksIn, by_full, by_short, IsWalk, is_walk, IsWalkEnd, is_walkend, is_restart, is_cycle}
+use Rattle.rt_model.proofs.graph.Standing.{blocked_lock, broken-named}
+use Rattle.rt_model.proofs.graph.Along.{phase-along, walk-at, walk-along, confirm-whole, confirm-unbroken}
+use Rattle.rt_model.proofs.graph.Kept.{responsible-other}
+use Rattle.rt_model.proofs.laws.Holders.{other_kind}
+use Rattle.rt_model.proofs.laws.Responsible.{full-link}
+use Rattle.rt_model.proofs.Prefixes.{lawful-there, next-there}
+
+-- ---- a task that is responsible for a cycle that stands
+
+module _ (s : State) (made : ℕ) (t : TaskId) (e : Event) (cycle : List (ℕ × ℕ)) (lawful : IsLawful s made) (next : IsNext s t e) (stands : IsCycle s cycle) (responsible : IsResponsible s cycle) (first : first_task t cycle ≡ t) where
+  -- its event goes along the cycle, or tells of it
+  abbrev Follows : Type 0
+  Follows = IsWalkAlong s cycle e ⊎ TellsCycle cycle e
+
+  at_phase : (phase : Phase) → (thread_part s t).phase ≡ phase → IsAlong cycle phase
+  at_phase phase is = subst (IsAlong cycle) is (phase-along s cycle t first responsible)
+
+  linked : (route : Route) (u : TaskId) (l : LockId) (key : ℕ) → IsWalk s t route u l key e → Follows
+  linked route u l key is = by_route is.how
+    where
+      by_route : WalksIn s t route u → Follows
+      by_route (by_short call answer short at to_come) = absurd (at_phase (phases.Walk u (Short answer)) (at.phased ∙ ap (phases.Walk u) short))
+      by_route (by_full path m full asks) =
+          let phase : (thread_part s t).phase ≡ phases.Walk u (Full path) = asks.at.phased ∙ ap (phases.Walk u) full in
+          let at = walk-at s cycle t stands responsible first u path phase in
+          let there : blocked_lock (task_part s u) ≡ Some l = ap blocking is.blocked in
+          let onward = full-link s made t route u l key e path lawful full is in
+          inl (record {
+            front = path;
+            pair = at.pair;
+            back = at.back;
+            along = at.along;
+            kind = ap (λ (x : Event). x.kind) is.event;
+            cursor = ap (λ (x : Event). x.other) is.event ∙ ap Some at.cursor;
+            lock = ap (λ (x : Event). x.lock) is.event ∙ (sym there ∙ at.blocked);
+            still = walk-along s cycle t stands responsible first u path phase (state_after s e) l onward.0 there onward.1 onward.2;
+          })
+
+  ended : (route : Route) (u : TaskId) → IsWalkEnd s t route u e → Follows
+  ended route u is = by_route is.how
+    where
+      by_route : WalksIn s t route u → Follows
+      by_route (by_short call answer short at to_come) = absurd (at_phase (phases.Walk u (Short answer)) (at.phased ∙ ap (phases.Walk u) short))
+      by_route (by_full path m full asks) =
+          let at = walk-at s cycle t stands responsible first u path (asks.at.phased ∙ ap (phases.Walk u) full) in
+          let none : blocked_lock (task_part s u) ≡ None = ap blocking is.blocked in
+          let some = at.blocked in cc
+
+  taken : (l : LockId) → TakesIn s t l → ⊥
+  taken l (from_slow asks) = at_phase phases.Slow asks.at.phased
+  taken l (from_wait asks awake) = at_phase phases.Wait asks.at.phased
+  taken l (from_trylock at) = at_phase phases.Start at.phased
+
+  acquired : (l : LockId) → AcquiresIn s t l → ⊥
+  acquired l (by_lock asks unheld) = at_phase phases.Start asks.at.phased
+  acquired l (by_trylock at) = at_phase phases.Start at.phased
+
+  pub follows : Follows
+  follows = by_family next
+    where
+      by_family : IsNext s t e → Follows
+      by_family (by_own call answer is) = absurd (at_phase phases.Start is.at.phased)
+      by_family (by_acquire l (is_fast is)) = absurd (acquired l is.how)
+      by_family (by_acquire l (is_mark is)) = absurd (at_phase phases.Start is.at.at.phased)
+      by_family (by_acquire l (is_take is)) = absurd (taken l is.how)
+      by_family (by_acquire l (is_busy is)) = absurd (at_phase phases.Start is.at.phased)
+      by_family (by_wait l (is_wait is)) = absurd (at_phase phases.Slow is.at.at.phased)
+      by_family (by_wait l (is_again is)) = absurd (at_phase phases.Wait is.at.at.phased)
+      by_family (by_wait l (is_leave is)) = absurd (at_phase phases.Wait is.at.phased)
+      by_family (by_release l (is_free is)) = absurd (at_phase phases.Start is.at.phased)
+      by_family (by_release l (is_give is)) = absurd (at_phase phases.Start is.at.phased)
+      by_family (by_walk route u (is_walk l key is)) = linked route u l key is
+      by_family (by_walk route u (is_walkend is)) = ended route u is
+      by_family (by_confirm l path (is_restart link is)) =
+          let none = confirm-unbroken s cycle t stands responsible first made path lawful.kept lawful.rows is.at.at.phased in
+          let some = is.broken in cc
+      by_family (by_confirm l path (is_cycle is)) =
+          inr (record { kind = ap (λ (x : Event). x.kind) is.event; path = ap (λ (x : Event). x.path) is.event ∙ confirm-whole s cycle t stands responsible first path is.at.at.phased })
+      by_family (by_signal u is) = absurd (at_phase phases.Start is.at.phased)
+      by_family (by_setprio u prio is) = absurd (at_phase phases.Start is.at.phased)
+
+-- another task's event leaves it responsible
+stays-responsible : (s : State) (e : Event) (cycle : List (ℕ × ℕ)) → IsResponsible s cycle → first_task e.task cycle ≢ e.task → IsResponsible (state_after s e) cycle
+stays-responsible s e cycle responsible other =
+    responsible-other s (state_after s e) e.task (λ u ne. ap (λ (th : ThreadPart). th.phase) (thread-other s e u ne)) cycle (λ first was. absurd (other first)) responsible
+
+-- ---- a walk that begins anew
+
+abbrev restarts : EventKind → Bool
+restarts kinds.Restart = true
+restarts _ = false
+
+module _ (s : State) (made : ℕ) (t : TaskId) (e : Event) (lawful : IsLawful s made) (is_restarted : restarts e.kind ≡ true) where
+  other : (x : Event) → e ≡ x → restarts x.kind ≡ false → NamesBroken s e
+  other x is not = absurd (other_kind restarts e x is not is_restarted)
+
+  pub names-broken : IsNext s t e → NamesBroken s e
+  names-broken (by_own call answer is) = other _ is.event refl
+  names-broken (by_acquire l (is_fast is)) = other _ is.event refl
+  names-broken (by_acquire l (is_mark is)) = other _ is.event refl
+  names-broken (by_acquire l (is_take is)) = other _ is.event refl
+  names-broken (by_acquire l (is_busy is)) = other _ is.event refl
+  names-broken (by_wait l (is_wait is)) = other _ is.event refl
+  names-broken (by_wait l (is_again is)) = other _ is.event refl
+  names-broken (by_wait l (is_leave is)) = other _ is.event refl
+  names-broken (by_release l (is_free is)) = other _ is.event refl
+  names-broken (by_release l (is_give is)) = other _ is.event refl
+  names-broken (by_walk route u (is_walk l key is)) = other _ is.event refl
+  names-broken (by_walk route u (is_walkend is)) = other _ is.event refl
+  names-broken (by_confirm l path (is_cycle is)) = other _ is.event refl
+  names-broken (by_signal u is) = other _ is.event refl
+  names-broken (by_setprio u prio is) = other _ is.event refl
+  names-broken (by_confirm l path (is_restart link is)) =
+      let first = broken-named s made lawful.kept lawful.rows path link is.broken in
+      record {
+        front = first.front;
+        link = link;
+        back = first.back;
+        along = ap (λ (x : Event). links_of x.path) is.event ∙ first.along;
+        stand = first.stand;
+        broken = first.broken;
+        task = ap (λ (x : Event). x.other) is.event;
+        lock = ap (λ (x : Event). x.lock) is.event;
+      }
+
+-- ---- over a run
+
+pub cycles-law : (s : State) (made : ℕ) (events : List Event) → IsLawful s made → IsRun s events → CyclesLaw s events
+cycles-law s made events lawful run =
+    let there = lawful-there s made events lawful run in
+    let next = next-there s made events lawful run in
+    record {
+      watched = λ prefix rest is. (there prefix rest is).responsible;
+      along = λ prefix rest e cycle is stands responsible first. follows (after s prefix) (made + length prefix) e.task e cycle (there prefix (e ∷ rest) is) (next prefix rest e is) stands responsible first;
+      stays = λ prefix rest e cycle is responsible other. stays-responsible (after s prefix) e cycle responsible other;
+      restarts = λ prefix rest e is kind. names-broken (after s prefix) (made + length prefix) e.task e (there prefix (e ∷ rest) is) (ap restarts kind) (next prefix rest e is);
+    }

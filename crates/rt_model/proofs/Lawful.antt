@@ -18,6 +18,7 @@ use Rattle.rt_model.proofs.laws.AwakeTop.{AwakeTopLaw-next}
 use Rattle.rt_model.proofs.laws.Keys.{KeysLaw-next}
 use Rattle.rt_model.proofs.laws.Walks.{WalksLaw-next}
 use Rattle.rt_model.proofs.laws.OwnPriorities.{OwnPrioritiesLaw-next}
+use Rattle.rt_model.proofs.laws.Responsible.{ResponsibleLaw-next}
 
 pub IsLawful-next : (s : State) (made : ℕ) (t : TaskId) (e : Event) → IsLawful s made → IsNext s t e → IsLawful (state_after s e) (suc made)
 IsLawful-next s made t e lawful next =
@@ -35,4 +36,5 @@ IsLawful-next s made t e lawful next =
       keys = KeysLaw-next s made t e lawful next;
       walks = WalksLaw-next s made t e lawful next;
       priorities = OwnPrioritiesLaw-next s made t e lawful next;
+      responsible = ResponsibleLaw-next s made t e lawful next;
     }

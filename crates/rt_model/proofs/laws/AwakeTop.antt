@@ -1,20 +1,21 @@
 -- A next event keeps the awake-top law.
-use Rattle.std.proofs.Common.{◌≡◌, ◌≢◌, ℕ, Bool, true, false, cond, ◌&&◌, is_none, List, length, refl, sym, ap, ◌∙◌, subst, arith, Option, Some, None, IfSome}
-use Rattle.std.specs.Prelude.{nat_eq, option_map}
+use Rattle.std.proofs.Common.{◌≡◌, ◌≢◌, ℕ, Bool, true, false, cond, ◌&&◌, is_none, not, List, [], ◌∷◌, length, refl, sym, ap, ◌∙◌, subst, arith, Option, Some, None, IfSome}
+use Rattle.std.specs.Prelude.{AllPairs, find, nat_eq, option_map}
 use Rattle.std.proofs.lemmas.Bool.{cond_both, cond-true, and_from}
 use Rattle.std.proofs.lemmas.Bool.Decides.{nat_tests}
 use Rattle.rt_base.specs.Kind.{spins}
-use Rattle.rt_base.specs.declared.call.Call.TheVariants as calls
 use Rattle.rt_base.specs.declared.id.LockId.{LockId}
 use Rattle.rt_base.specs.declared.id.TaskId.{TaskId}
 use Rattle.rt_base.specs.declared.state.TaskState.{TaskState}
 use Rattle.rt_base.specs.declared.state.TaskState.TheVariants as states
 use Rattle.rt_model.specs.declared.event.Event.{Event}
+use Rattle.rt_model.specs.declared.phase.Phase.TheVariants as phases
 use Rattle.rt_model.specs.declared.phase.Route.{Route}
 use Rattle.rt_model.specs.declared.row.Row.{Row}
 use Rattle.rt_model.specs.Parts.{OwnerPart, TaskPart, effective_of, kind_of, kind_named}
-use Rattle.rt_model.specs.Rows.{top_waiter, top_task, top_changed, task_of, is_of, insert_row}
+use Rattle.rt_model.specs.Rows.{top_waiter, top_task, top_changed, task_of, is_of, insert_row, without}
 use Rattle.rt_model.specs.State.{State, shared, owner_part, task_part, thread_part}
+use Rattle.rt_model.specs.steps.Lock.{left_by}
 use Rattle.rt_model.specs.steps.Task.{sleeps, woken_up, lock_woken}
 use Rattle.rt_model.specs.steps.Chain.{newly_top}
 use Rattle.rt_model.specs.Effect.{Around, around}
@@ -24,17 +25,20 @@ use Rattle.rt_model.specs.StateAfter.{effect_in, lock_left, state_after}
 use Rattle.rt_model.specs.laws.AwakeTop.{AwakeTopLaw}
 use Rattle.rt_model.specs.laws.Lawful.{IsLawful}
 use Rattle.rt_model.specs.laws.Owners.{owned_by}
+use Rattle.rt_model.specs.laws.Rows.{IsAhead}
 use Rattle.rt_model.proofs.Lists.{if_some, if_found}
 use Rattle.rt_model.proofs.Named.{top_within}
-use Rattle.rt_model.proofs.NextEvents.{IsNext, by_own, by_acquire, by_wait, by_release, by_walk, by_setprio}
+use Rattle.rt_model.proofs.NextEvents.{IsNext, by_own, by_acquire, by_wait, by_release, by_walk, by_confirm, by_signal, by_setprio}
 use Rattle.rt_model.proofs.events.Acquire.{is_fast, is_mark, is_take, is_busy}
-use Rattle.rt_model.proofs.events.Wait.{IsWait, IsAgain, is_wait, is_again}
+use Rattle.rt_model.proofs.events.Wait.{IsWait, IsAgain, is_wait, is_again, is_leave}
 use Rattle.rt_model.proofs.events.Release.{IsGive, is_free, is_give}
-use Rattle.rt_model.proofs.events.Walk.{IsWalk, is_walk, is_walkend}
+use Rattle.rt_model.proofs.events.Walk.{IsWalk, is_walk, is_walkend, is_restart, is_cycle}
+use Rattle.rt_model.proofs.Calling.{asks-lock}
+use Rattle.rt_model.proofs.Leaves.{IsLeft, by_leave, by_cycle, leave-left, cycle-left, left-locks}
 use Rattle.rt_model.proofs.Links.{slots_there, requeued-owner, link_lock, link-locks, link-slots}
 use Rattle.rt_model.proofs.Numbers.{number_itself, at_each_lock}
 use Rattle.rt_model.proofs.PartsAfter.{OthersKeep, SlotsThere, lock-kept, lock-made, task-keeps, other-keeps, slots-made}
-use Rattle.rt_model.proofs.Queues.{none_of, top-at, not_top, queued_after, unchanged-waiter}
+use Rattle.rt_model.proofs.Queues.{none_of, top-at, not_top, top-first, find-top, queued_after, unchanged-waiter}
 use Rattle.rt_model.proofs.TaskStates.{HasState, sends_to_sleep, state-own, state-others}
 use Rattle.rt_model.proofs.Waiters.{slow-unqueued, wait-elsewhere}
 use Rattle.rt_model.proofs.Within.{rows_within}
@@ -43,6 +47,13 @@ use Rattle.rt_model.proofs.laws.States.{spins-known, IsCalm, running-calm}
 -- a row that isn't the task's is another's
 others_row : (t : TaskId) (row : Row) → is_of t row ≡ false → nat_eq t.0 row.who ≡ false
 others_row t row is = grind (arith, nat_tests)
+
+-- the top waiter stays where a row goes that isn't its
+top-stays : (t : TaskId) (rows : List Row) → AllPairs IsAhead rows → ((row : Row) → top_waiter rows ≡ Some row → is_of t row ≡ false) → top_waiter (without t rows) ≡ top_waiter rows
+top-stays t [] order isnt = refl
+top-stays t (row ∷ rows) order isnt =
+    let first : top_waiter (row ∷ rows) ≡ Some row = top-first (row ∷ rows) order in
+    sym (find-top (λ r. not (is_of t r)) (row ∷ rows) order) ∙ (cond-true (not (is_of t row)) (Some row) (find (λ r. not (is_of t r)) rows) (ap not (isnt row first)) ∙ sym first)
 
 -- ---- a task that runs
 
@@ -98,14 +109,14 @@ module _ (s : State) (made : ℕ) (t : TaskId) (e : Event) (lawful : IsLawful s 
   wait-awake : (l m : LockId) → IsWait s t l e → HasAwakeTop (state_after s e) (owner_part s m)
   wait-awake l m is =
       others_awake m (ap (λ (x : Event). x.task) is.event)
-      (λ row none top. top-at (λ (r : Row). is_of t r ≡ false) (owner_part s m).rows row (none_of t (owner_part s m).rows (slow-unqueued s made t lawful m (calls.Lock l) is.at)) top)
+      (λ row none top. top-at (λ (r : Row). is_of t r ≡ false) (owner_part s m).rows row (none_of t (owner_part s m).rows (slow-unqueued s made t lawful m is.at.call is.at.at)) top)
 
   -- and its row stands after the top waiter
   wait-here : (l : LockId) → IsWait s t l e → (owner_part s l).owner ≡ None
       → IfSome (top_waiter (insert_row (record { key = effective_of (task_part s t); ticket = (owner_part s l).ticket; who = t.0 }) (owner_part s l).rows)) (Runs (state_after s e))
   wait-here l is none =
       subst (λ (o : Option Row). IfSome o (Runs (state_after s e)))
-      (sym (queued_after t (kind_of (thread_part s t) l) (owner_part s l) (task_part s t) is.cannot none (slow-unqueued s made t lawful l (calls.Lock l) is.at) (lawful.rows.queue l)))
+      (sym (queued_after t (kind_of (thread_part s t) l) (owner_part s l) (task_part s t) is.cannot none (slow-unqueued s made t lawful l is.at.call is.at.at) (lawful.rows.queue l)))
       (wait-awake l l is none)
 
   -- nor is one that sleeps again, of a lock that nobody owns
@@ -184,12 +195,28 @@ module _ (s : State) (made : ℕ) (t : TaskId) (e : Event) (lawful : IsLawful s 
           subst (λ (o : Option Row). IfSome o (Runs (state_after s e))) (sym (unchanged-waiter before after.rows same))
           (all_awake _ l is.event refl (sym (requeued-owner (Some u) (task_part s u) (owner_part s l)) ∙ none))
 
+  -- who leaves a queue may not take the lock, or the lock has an owner: so the top waiter stays where there is none
+  left-kept : (l : LockId) → IsLeft s t l e → (owner_part s l).owner ≡ None → top_waiter (without t (owner_part s l).rows) ≡ top_waiter (owner_part s l).rows
+  left-kept l (by_leave is) none =
+      top-stays t (owner_part s l).rows (lawful.rows.queue l).order (λ row top. not_top t (kind_of (thread_part s t) l) (owner_part s l) (task_part s t) row is.cannot none top)
+  left-kept l (by_cycle path o m rest is round owned) none = cc
+
+  left-awake : (l m : LockId) → IsLeft s t l e → HasAwakeTop (state_after s e) (owner_part s m)
+  left-awake l m (by_leave is) = all_awake _ m is.event refl
+  left-awake l m (by_cycle path o k rest is round owned) = all_awake _ m is.event refl
+
+  left-here : (l : LockId) → IsLeft s t l e → HasAwakeTop (state_after s e) (left_by t (owner_part s l))
+  left-here l is none = subst (λ (o : Option Row). IfSome o (Runs (state_after s e))) (sym (left-kept l is none)) (left-awake l l is none)
+
 -- awake-top law
 pub AwakeTopLaw-next : (s : State) (made : ℕ) (t : TaskId) (e : Event) → IsLawful s made → IsNext s t e → AwakeTopLaw (state_after s e)
 AwakeTopLaw-next s made t e lawful next m = by_kind next
   where
     Awake : LockId → OwnerPart → Type 0
     Awake k lock = HasAwakeTop (state_after s e) lock
+
+    left : (l : LockId) → IsLeft s t l e → Awake m (owner_part (state_after s e) m)
+    left l is = left-locks s made t l e lawful is Awake m (left-here s made t e lawful l is) (λ there. left-awake s made t e lawful l m is)
 
     by_kind : IsNext s t e → Awake m (owner_part (state_after s e) m)
     by_kind (by_own call answer is) = lock-kept (Awake m) s e _ m is.event (all_awake s made t e lawful _ m is.event refl) (λ lock was. was)
@@ -198,10 +225,14 @@ AwakeTopLaw-next s made t e lawful next m = by_kind next
     by_kind (by_acquire l (is_take is)) = lock-kept (Awake m) s e _ m is.event (all_awake s made t e lawful _ m is.event refl) (λ lock was none. absurd cc)
     by_kind (by_acquire l (is_busy is)) = lock-kept (Awake m) s e _ m is.event (all_awake s made t e lawful _ m is.event refl) (λ lock was. was)
     by_kind (by_walk route u (is_walkend is)) = lock-kept (Awake m) s e _ m is.event (all_awake s made t e lawful _ m is.event refl) (λ lock was. was)
+    by_kind (by_signal u is) = lock-kept (Awake m) s e _ m is.event (all_awake s made t e lawful _ m is.event refl) (λ lock was. was)
+    by_kind (by_confirm l path (is_restart link is)) = lock-kept (Awake m) s e _ m is.event (all_awake s made t e lawful _ m is.event refl) (λ lock was. was)
+    by_kind (by_confirm l path (is_cycle is)) = left l (cycle-left s made t l path e lawful is)
+    by_kind (by_wait l (is_leave is)) = left l (leave-left s t l e is)
     by_kind (by_setprio u prio is) = lock-kept (Awake m) s e _ m is.event (all_awake s made t e lawful _ m is.event refl) (λ lock was. was)
     by_kind (by_walk route u (is_walk l key is)) =
         link-locks s made t route u l key e lawful is Awake m (walk-here s made t e lawful route u l key is) (λ there. all_awake s made t e lawful _ m is.event refl)
-    by_kind (by_wait l (is_wait is)) = lock-made Awake s e _ l m is.event refl is.at.served (wait-here s made t e lawful l is) (λ there. wait-awake s made t e lawful l m is)
+    by_kind (by_wait l (is_wait is)) = lock-made Awake s e _ l m is.event refl (asks-lock s t phases.Slow l is.at) (wait-here s made t e lawful l is) (λ there. wait-awake s made t e lawful l m is)
     by_kind (by_wait l (is_again is)) = lock-kept (Awake m) s e _ m is.event (again-awake s made t e lawful l m is) (λ lock was. was)
     by_kind (by_release l (is_free is)) =
         lock-made Awake s e _ l m is.event refl is.at.served

@@ -4,7 +4,8 @@ ghost use Rattle.rt_model.specs.Parts.{call_of, kind_of};
 ghost use Rattle.rt_model.specs.Choice.{called_lock};
 ghost use Rattle.rt_model.specs.Stage.{IsServed};
 ghost use Rattle.rt_model.specs.events.Own.{own_answer};
-ghost use Rattle.rt_model.specs.NextEvent.{first_event, answered_or, later_event, next_of};
+ghost use Rattle.rt_model.specs.NextEvent.{first_event, answered_or, later_event, event_in, next_of};
+ghost use Rattle.rt_model.specs.laws.Keys.{IsToConfirm};
 ghost use Rattle.rt_core.specs.Walking.{FindsCursor};
 
 mod acquire;
@@ -43,9 +44,26 @@ pub fn next_of(shared: &Shared, t: TaskId, thread: &Thread) -> Option<Event>
     ensures { result ≡ next_of shared.now t thread.now }
 {
     let call = thread.call()?;
+    if let Phase::Confirm(path) = thread.phase() {
+        return confirmed_event(shared, t, path);
+    }
+    event_of(chosen_event(shared, t, thread, &call))
+}
+
+// The event of a call, in a phase in which no path is to be confirmed, so that it has none.
+fn chosen_event(shared: &Shared, t: TaskId, thread: &Thread, call: &Call) -> Option<Chosen>
+    requires task { t.0 < length shared.now.tasks }
+    requires kinds { length thread.now.kinds ≡ length shared.now.locks }
+    requires call { call_of thread.now ≡ Some call.now }
+    requires known { IsServed MAX_TASKS (length thread.now.kinds) call.now }
+    requires served { IsServed (length shared.now.tasks) (length shared.now.locks) call.now }
+    requires cursor { FindsCursor shared.now thread.now.phase }
+    requires other { IsToConfirm thread.now.phase → ⊥ }
+    ensures { result ≡ event_in thread.now.phase shared.now t thread.now call.now }
+{
     match thread.phase() {
-        Phase::Start => event_of(start_event(shared, t, thread, &call)),
-        phase => later_event(phase, shared, t, thread, &call),
+        Phase::Start => start_event(shared, t, thread, call),
+        phase => later_event(phase, shared, t, thread, call),
     }
 }
 
@@ -90,22 +108,22 @@ fn later_event(
     t: TaskId,
     thread: &Thread,
     call: &Call,
-) -> Option<Event>
+) -> Option<Chosen>
     requires task { t.0 < length shared.now.tasks }
     requires kinds { length thread.now.kinds ≡ length shared.now.locks }
     requires call { call_of thread.now ≡ Some call.now }
     requires known { IsServed MAX_TASKS (length thread.now.kinds) call.now }
     requires cursor { FindsCursor shared.now phase.now }
+    requires other { IsToConfirm phase.now → ⊥ }
     ensures { result ≡ later_event phase.now shared.now t thread.now (called_lock thread.now.cpu call.now) }
 {
     match (phase, thread.called_lock(call)) {
-        (Phase::Slow, Some(l)) => event_of(Some(slow_event(shared, t, l, thread.kind_of(l)))),
+        (Phase::Slow, Some(l)) => Some(slow_event(shared, t, l, thread.kind_of(l))),
         (Phase::Wait, Some(l)) => {
             let kind = thread.kind_of(l);
-            event_of(queued_event(shared, t, l, kind, call))
+            queued_event(shared, t, l, kind, call)
         }
-        (Phase::Walk(cursor, route), _) => event_of(Some(cursor_event(shared, t, route, *cursor))),
-        (Phase::Confirm(path), _) => confirmed_event(shared, t, path),
+        (Phase::Walk(cursor, route), _) => Some(cursor_event(shared, t, route, *cursor)),
         _ => None,
     }
 }

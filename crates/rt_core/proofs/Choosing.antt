@@ -1,5 +1,5 @@
 -- What the choice of an event finds in a lawful state.
-use Rattle.std.proofs.Common.{◌≡◌, ℕ, ◌<◌, List, [], ◌∷◌, length, refl, sym, subst, arith, Option, Some, None, IfSome}
+use Rattle.std.proofs.Common.{◌≡◌, ℕ, ◌<◌, List, [], ◌∷◌, length, refl, sym, ap, subst, arith, Option, Some, None, IfSome}
 use Rattle.std.proofs.lemmas.List.Elements.{All-head}
 use Rattle.rt_base.specs.declared.call.Call.{Call}
 use Rattle.rt_base.specs.declared.id.LockId.{LockId}
@@ -10,7 +10,11 @@ use Rattle.rt_model.specs.declared.phase.Route.{Route}
 use Rattle.rt_model.specs.declared.phase.Route.TheVariants.{Full, Short}
 use Rattle.rt_model.specs.Parts.{call_of}
 use Rattle.rt_model.specs.State.{State, shared, task_part, thread_part}
-use Rattle.rt_model.specs.Stage.{IsServed}
+use Rattle.rt_model.specs.NextEvent.{event_in, event_of, next_event}
+use Rattle.rt_model.specs.Path.{first_broken}
+use Rattle.rt_model.specs.Stage.{IsServed, IsPhaseOf}
+use Rattle.rt_model.specs.events.Walk.{confirmed_event}
+use Rattle.rt_model.specs.laws.Phases.{PhasesLaw}
 use Rattle.rt_model.specs.laws.Lawful.{IsLawful}
 use Rattle.rt_model.specs.laws.Queued.{present_lock}
 use Rattle.rt_model.specs.laws.Walks.{IsToConfirm, IsWalkOf}
@@ -69,3 +73,11 @@ module _ (s : State) (made : ℕ) (t : TaskId) (lawful : IsLawful s made) where
       }
       by_phase (phases.Confirm path) is = path-here path is
       by_phase _ is = tt
+
+-- the event of a walk that is to be confirmed
+pub confirmed-next : (s : State) (t : TaskId) (path : List (ℕ × ℕ)) → PhasesLaw s → (thread_part s t).phase ≡ phases.Confirm path → next_event s t ≡ Some (confirmed_event (shared s) t path (first_broken (shared s) path))
+confirmed-next s t path law phase = by_call (call_of (thread_part s t)) (subst (λ (p : Phase). IsPhaseOf p (call_of (thread_part s t))) phase (law t))
+  where
+    by_call : (call : Option Call) → IsPhaseOf (phases.Confirm path) call → event_of (shared s) t (thread_part s t) call ≡ Some (confirmed_event (shared s) t path (first_broken (shared s) path))
+    by_call None fits = absurd fits
+    by_call (Some call) fits = ap (λ (p : Phase). event_in p (shared s) t (thread_part s t) call) phase

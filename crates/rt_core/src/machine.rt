@@ -20,7 +20,7 @@ ghost use Rattle.rt_core.specs.Core.{Made};
 
 use crate::effect::make;
 use crate::enabled::Enabled;
-use crate::next::next_of;
+use crate::next::{confirmed_event, event_of, next_of};
 use crate::note::Note;
 use crate::playable::is_playable;
 use crate::report::{write_lock_line, write_task_line};
@@ -241,7 +241,11 @@ impl Core {
         ensures local { IfSome result (λ e. (s : State) → AgreeOn e self.now.state s → next_event s t ≡ Some e) }
         ensures none { result ≡ None → (s : State) → thread_part s t ≡ thread_part self.now.state t → task_part s t ≡ task_part self.now.state t → next_event s t ≡ None }
     {
-        next_of(&self.shared, t, self.thread(t))
+        let thread = self.thread(t);
+        if let Phase::Confirm(path) = thread.phase() {
+            return confirmed_event(&self.shared, t, path);
+        }
+        event_of(next_of(&self.shared, t, thread))
     }
 
     /// Makes an event: the next one of its task.

@@ -4,7 +4,7 @@ ghost use Rattle.rt_model.specs.Parts.{call_of, kind_of};
 ghost use Rattle.rt_model.specs.Choice.{called_lock};
 ghost use Rattle.rt_model.specs.Stage.{IsServed};
 ghost use Rattle.rt_model.specs.events.Own.{own_answer};
-ghost use Rattle.rt_model.specs.NextEvent.{first_event, answered_or, later_event, event_in, next_of};
+ghost use Rattle.rt_model.specs.NextEvent.{first_event, answered_or, later_event, next_of};
 ghost use Rattle.rt_model.specs.laws.Keys.{IsToConfirm};
 ghost use Rattle.rt_core.specs.Walking.{FindsCursor};
 
@@ -19,8 +19,9 @@ mod wakeups;
 mod walk;
 
 use crate::next::acquire::{acquire_event, try_event};
-use crate::next::chosen::{Chosen, event_of};
-use crate::next::confirm::confirmed_event;
+use crate::next::chosen::Chosen;
+pub use crate::next::chosen::event_of;
+pub use crate::next::confirm::confirmed_event;
 pub use crate::next::event::is_old;
 pub use crate::next::own::own_answer;
 use crate::next::own::own_event;
@@ -33,37 +34,22 @@ use crate::shared::Shared;
 use crate::thread::Thread;
 use rt_base::limits::MAX_TASKS;
 use rt_base::{Call, TaskId};
-use rt_model::{Event, Phase};
+use rt_model::Phase;
 
-/// The event of a task with this thread, where it has one.
-pub fn next_of(shared: &Shared, t: TaskId, thread: &Thread) -> Option<Event>
+/// The event of a task with this thread, where it has one, in a phase in which no path is to be confirmed: so
+/// it has no path.
+pub fn next_of(shared: &Shared, t: TaskId, thread: &Thread) -> Option<Chosen>
     requires task { t.0 < length shared.now.tasks }
     requires kinds { length thread.now.kinds ≡ length shared.now.locks }
     requires served { IfSome (call_of thread.now) (IsServed (length shared.now.tasks) (length shared.now.locks)) }
     requires cursor { FindsCursor shared.now thread.now.phase }
+    requires other { IsToConfirm thread.now.phase → ⊥ }
     ensures { result ≡ next_of shared.now t thread.now }
 {
     let call = thread.call()?;
-    if let Phase::Confirm(path) = thread.phase() {
-        return confirmed_event(shared, t, path);
-    }
-    event_of(chosen_event(shared, t, thread, &call))
-}
-
-// The event of a call, in a phase in which no path is to be confirmed, so that it has none.
-fn chosen_event(shared: &Shared, t: TaskId, thread: &Thread, call: &Call) -> Option<Chosen>
-    requires task { t.0 < length shared.now.tasks }
-    requires kinds { length thread.now.kinds ≡ length shared.now.locks }
-    requires call { call_of thread.now ≡ Some call.now }
-    requires known { IsServed MAX_TASKS (length thread.now.kinds) call.now }
-    requires served { IsServed (length shared.now.tasks) (length shared.now.locks) call.now }
-    requires cursor { FindsCursor shared.now thread.now.phase }
-    requires other { IsToConfirm thread.now.phase → ⊥ }
-    ensures { result ≡ event_in thread.now.phase shared.now t thread.now call.now }
-{
     match thread.phase() {
-        Phase::Start => start_event(shared, t, thread, call),
-        phase => later_event(phase, shared, t, thread, call),
+        Phase::Start => start_event(shared, t, thread, &call),
+        phase => later_event(phase, shared, t, thread, &call),
     }
 }
 

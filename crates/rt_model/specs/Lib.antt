@@ -7,6 +7,7 @@ pub mod steps
 pub mod Effect
 pub mod Choice
 pub mod Path
+pub mod Graph
 pub mod events
 pub mod Rules
 pub mod StateAfter

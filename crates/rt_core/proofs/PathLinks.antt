@@ -1,5 +1,5 @@
 -- The links of a path: how many they are, the first of them, and the first one that passes a test.
-use Rattle.std.proofs.Common.{◌≡◌, ℕ, zero, suc, ◌+◌, ◌<◌, ◌≤◌, Bool, true, false, cond, List, [], ◌∷◌, length, drop, refl, ap, sym, subst, ◌∙◌, Option, Some, None, unwrap_or, All, add-one, arith}
+use Rattle.std.proofs.Common.{◌≡◌, ℕ, zero, suc, ◌+◌, ◌<◌, ◌≤◌, Bool, true, false, cond, List, [], ◌∷◌, length, drop, refl, ap, sym, subst, ◌∙◌, Some, None, unwrap_or, All, add-one, arith}
 use Rattle.std.specs.Prelude.{find, slice_get}
 use Rattle.rt_base.specs.declared.id.TaskId.{TaskId}
 use Rattle.rt_model.specs.Path.{Link, links_to, links_of, first_lock, first_owner}

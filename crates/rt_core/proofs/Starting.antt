@@ -35,7 +35,9 @@ start-fits n lines cells readers tasks r few_locks few_tasks is_cells is_readers
 -- a call that is served among so many tasks is so among as many as there may be
 pub served-more : (tasks locks : ℕ) (call : Call) → tasks ≤ MAX_TASKS → IsServed tasks locks call → IsServed MAX_TASKS locks call
 served-more tasks locks (calls.Lock l) few served = served
+served-more tasks locks (calls.LockInt l) few served = served
 served-more tasks locks (calls.TryLock l) few served = served
 served-more tasks locks (calls.Unlock l) few served = served
+served-more tasks locks (calls.Signal t) few served = omega (arith, served, few)
 served-more tasks locks (calls.SetPrio t prio) few served = (omega (arith, served.0, few), served.1)
 served-more tasks locks _ few served = absurd served

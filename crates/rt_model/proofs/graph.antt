@@ -6,3 +6,4 @@ pub mod Kept
 pub mod Reaching
 pub mod Back
 pub mod Waiting
+pub mod Rounds

@@ -64,7 +64,8 @@ keys_of rows = map (λ (row : Row). row.key) rows
 
 module _ (P : ℕ → Type 0) (t : TaskId) (d : OwnerPart) where
   -- what holds of the rows' keys at each lock that the task owns holds of each of them
-  waiting-all : (locks : List OwnerPart) → ((i : ℕ) → owned_by (unwrap_or (slice_get locks i) d).owner t ≡ true → All (λ (row : Row). P row.key) (unwrap_or (slice_get locks i) d).rows) → All P (waiting_keys t locks)
+  waiting-all : (locks : List OwnerPart)
+      → ((i : ℕ) → owned_by (unwrap_or (slice_get locks i) d).owner t ≡ true → All (λ (row : Row). P row.key) (unwrap_or (slice_get locks i) d).rows) → All P (waiting_keys t locks)
   waiting-all [] each = All-nil P
   waiting-all (lock ∷ locks) each =
       All-append P (cond (owned_by lock.owner t) (keys_of lock.rows) []) (waiting_keys t locks) (here (owned_by lock.owner t) refl) (waiting-all locks (λ i owned. each (suc i) owned))
@@ -74,7 +75,8 @@ module _ (P : ℕ → Type 0) (t : TaskId) (d : OwnerPart) where
       here false is = All-nil P
 
   -- and the other way round
-  all-waiting : (locks : List OwnerPart) (i : ℕ) → owned_by d.owner t ≡ false → All P (waiting_keys t locks) → owned_by (unwrap_or (slice_get locks i) d).owner t ≡ true → All P (keys_of (unwrap_or (slice_get locks i) d).rows)
+  all-waiting : (locks : List OwnerPart) (i : ℕ) → owned_by d.owner t ≡ false → All P (waiting_keys t locks)
+      → owned_by (unwrap_or (slice_get locks i) d).owner t ≡ true → All P (keys_of (unwrap_or (slice_get locks i) d).rows)
   all-waiting [] i none all owned = absurd cc
   all-waiting (lock ∷ locks) zero none all owned =
       subst (λ (b : Bool). All P (cond b (keys_of lock.rows) [])) owned (All-front P (cond (owned_by lock.owner t) (keys_of lock.rows) []) (waiting_keys t locks) all)
@@ -157,7 +159,8 @@ module _ (s : State) (made : ℕ) (lawful : IsLawful s made) where
     pub leads-falls : (u t : TaskId) → Leads s u t → effective_of (task_part s t) ≤ effective_of (task_part s u)
     leads-falls u t (l, edge) =
         let owned : owned_by (owner_part s l).owner t ≡ true = ap (λ (o : Option TaskId). owned_by o t) edge.owned ∙ number_itself t.0 in
-        let keys : All (λ key. effective_of (task_part s t) ≤ key) (waiting_keys t s.locks) = subst (λ (prio : ℕ). All (λ key. prio ≤ key) (waiting_keys t s.locks)) (sym (effective-right t)) (least-all (task_part s t).own (waiting_keys t s.locks)) in
+        let keys : All (λ key. effective_of (task_part s t) ≤ key) (waiting_keys t s.locks) =
+        subst (λ (prio : ℕ). All (λ key. prio ≤ key) (waiting_keys t s.locks)) (sym (effective-right t)) (least-all (task_part s t).own (waiting_keys t s.locks)) in
         let some : is_some (queued_key u (owner_part s l).rows) ≡ true = ap (λ (o : Option ℕ). is_some o) (lawful.rows.rows l u) ∙ edge.blocked in
         subst (λ (o : Option ℕ). IfSome o (λ key. effective_of (task_part s t) ≤ key)) (queued u l some)
         (queued-holds (λ key. effective_of (task_part s t) ≤ key) u (owner_part s l).rows (all-waiting (λ key. effective_of (task_part s t) ≤ key) t free_lock s.locks l.0 refl keys owned))
@@ -168,16 +171,17 @@ module _ (s : State) (made : ℕ) (lawful : IsLawful s made) where
         One : ℕ → Type 0
         One prio = (prio ≡ (task_part s t).own) ⊎ IsBehind s t prio
 
+        -- a row at a lock that the task owns is of a task that leads to it
+        of_row : (l : LockId) (row : Row) → owned_by (owner_part s l).owner t ≡ true → queued_key (task_of row) (owner_part s l).rows ≡ Some row.key → One row.key
+        of_row l row owned is =
+            let u : TaskId = task_of row in
+            let some : is_some (queued_key u (owner_part s l).rows) ≡ true = ap (λ (o : Option ℕ). is_some o) is in
+            let blocked : is_some (key_at (task_part s u).blocked l) ≡ true = ap (λ (o : Option ℕ). is_some o) (sym (lawful.rows.rows l u)) ∙ some in
+            let key : row.key ≡ effective_of (task_part s u) = (let there = queued u l some in cc) in
+            inr (record { task = u; leads = (l, record { blocked = blocked; owned = owned-is (owner_part s l).owner t owned }); is = key })
+
         behind : (i : ℕ) → owned_by (unwrap_or (slice_get s.locks i) free_lock).owner t ≡ true → All (λ (row : Row). One row.key) (unwrap_or (slice_get s.locks i) free_lock).rows
         behind i owned =
-            let l : LockId = record { 0 = i } in
-            All-weaker (λ (row : Row). queued_key (task_of row) (owner_part s l).rows ≡ Some row.key) (λ (row : Row). One row.key)
-            (λ row is. inr (
-              let some : is_some (queued_key (task_of row) (owner_part s l).rows) ≡ true = ap (λ (o : Option ℕ). is_some o) is in
-              let key : row.key ≡ effective_of (task_part s (task_of row)) = (let there = queued (task_of row) l some in cc) in
-              record {
-                task = task_of row;
-                leads = (l, record { blocked = ap (λ (o : Option ℕ). is_some o) (sym (lawful.rows.rows l (task_of row))) ∙ some; owned = owned-is (owner_part s l).owner t owned });
-                is = key;
-              }))
-            (owner_part s l).rows (own-row (owner_part s l).rows (lawful.rows.queue l).order)
+            let rows : List Row = (unwrap_or (slice_get s.locks i) free_lock).rows in
+            All-weaker (λ (row : Row). queued_key (task_of row) rows ≡ Some row.key) (λ (row : Row). One row.key) (λ row is. of_row (record { 0 = i }) row owned is) rows
+            (own-row rows (lawful.rows.queue (record { 0 = i })).order)

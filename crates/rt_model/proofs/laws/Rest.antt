@@ -28,6 +28,7 @@ along-walks cycle (Walk cursor route) along = refl
 along-walks cycle (Confirm path) along = refl
 along-walks cycle _ along = absurd along
 
+-- and so is one of a task that is responsible
 responsible-walks : (s : State) (cycle : List (ℕ × ℕ)) → IsResponsible s cycle → IsAtRest s → ⊥
 responsible-walks s [] responsible rest = responsible
 responsible-walks s (pair ∷ path) responsible rest =
@@ -40,15 +41,18 @@ abbrev One : State → TaskId → ℕ → Type 0
 One s t prio = (prio ≡ (task_part s t).own) ⊎ ((u : TaskId) × Reaches s u t × (prio ≡ (task_part s u).own))
 
 module _ (s : State) (made : ℕ) (lawful : IsLawful s made) (rest : IsAtRest s) where
+  -- so none stands
   no-cycle : (cycle : List (ℕ × ℕ)) → IsCycle s cycle → ⊥
   no-cycle cycle stands = let responsible = lawful.responsible cycle stands in responsible-walks s responsible.0 responsible.2 rest
 
   -- ---- priorities
 
+  -- who leads to a task has no better priority than that one
   falls : (u t : TaskId) → Reaches s u t → effective_of (task_part s t) ≤ effective_of (task_part s u)
   falls u t (at_once {t = a} {u = b} leads) = leads-falls s made lawful rest a b leads
   falls u t (onward {t = a} {u = b} {v = c} leads reaches) = let first = leads-falls s made lawful rest a b leads in let others = falls b c reaches in omega (arith, first, others)
 
+  -- the priority is the own one of the task at the begin of a way
   attained : (t : TaskId) (path : List (ℕ × ℕ)) → IsWay s t path → effective_of (task_part s t) ≡ (task_part s (first_task t path)).own → One s t (effective_of (task_part s t))
   attained t path way is = elim (way-reaches s t path way) [
     | inl same ↦ inl (is ∙ ap (λ (u : TaskId). (task_part s u).own) same)
@@ -69,6 +73,7 @@ module _ (s : State) (made : ℕ) (lawful : IsLawful s made) (rest : IsAtRest s)
     ]
   ]
 
+  -- so the effective priority is the graph priority
   priority : (t : TaskId) → IsGraphPriority s t (effective_of (task_part s t))
   priority t = record {
     own = effective-own s made lawful t;
@@ -76,6 +81,7 @@ module _ (s : State) (made : ℕ) (lawful : IsLawful s made) (rest : IsAtRest s)
     one = back t (suc (length s.tasks)) [] (omega arith) (All-nil (λ (pair : ℕ × ℕ). pair.0 < length s.tasks)) (way-none s t) refl;
   }
 
+-- a lawful state has what holds at rest
 pub RestLaw-lawful : (s : State) (made : ℕ) → IsLawful s made → RestLaw s
 RestLaw-lawful s made lawful = record { priorities = priority s made lawful; cycles = no-cycle s made lawful }
 

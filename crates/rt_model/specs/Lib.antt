@@ -8,6 +8,7 @@ pub mod Effect
 pub mod Choice
 pub mod Path
 pub mod Graph
+pub mod Rounds
 pub mod events
 pub mod Rules
 pub mod StateAfter

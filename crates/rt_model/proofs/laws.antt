@@ -18,4 +18,5 @@ pub mod Interrupts
 pub mod Cycles
 pub mod Priorities
 pub mod Calls
+pub mod Rest
 pub mod Sound

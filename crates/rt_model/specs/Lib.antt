@@ -7,6 +7,8 @@ pub mod steps
 pub mod Effect
 pub mod Choice
 pub mod Path
+pub mod Graph
+pub mod Rounds
 pub mod events
 pub mod Rules
 pub mod StateAfter

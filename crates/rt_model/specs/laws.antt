@@ -20,4 +20,5 @@ pub mod Interrupts
 pub mod Cycles
 pub mod Priorities
 pub mod Calls
+pub mod Rest
 pub mod Sound

@@ -18,6 +18,7 @@ use Rattle.rt_model.proofs.laws.Interrupts.{interrupts-law}
 use Rattle.rt_model.proofs.laws.Cycles.{cycles-law}
 use Rattle.rt_model.proofs.laws.Priorities.{priority-law}
 use Rattle.rt_model.proofs.laws.Calls.{calls-law}
+use Rattle.rt_model.proofs.laws.Rest.{rest-sound}
 
 -- no task has made a call's first event at the start
 idle-start : (script : Script) (t : TaskId) → (thread_part (start script) t).phase ≡ Start
@@ -35,4 +36,5 @@ sound script events valid mutexes run =
       interrupts = interrupts-law (start script) 0 events lawful run (idle-start script);
       cycles = cycles-law (start script) 0 events lawful run;
       calls = calls-law script events lawful run;
+      rest = rest-sound (start script) 0 events lawful run;
     }

@@ -1,4 +1,4 @@
--- The blocking graph, its cycles, the law of the responsible walker, and what leads to a task.
+-- The blocking graph, its cycles, the law of the responsible walker, what leads to a task, and where one leads.
 pub mod Turned
 pub mod Standing
 pub mod Along
@@ -7,3 +7,4 @@ pub mod Reaching
 pub mod Back
 pub mod Waiting
 pub mod Rounds
+pub mod Followed

@@ -16,3 +16,4 @@ pub mod Applying
 pub mod EntryWellFormed
 pub mod Notes
 pub mod ReportShort
+pub mod GraphRounds

@@ -5,6 +5,7 @@ pub mod Links
 pub mod TaskSet
 pub mod Core
 pub mod Enabled
+pub mod KnownSets
 pub mod Fits
 pub mod Report
 pub mod Text
@@ -15,6 +16,8 @@ pub use Rattle.rt_model.specs.Rows
 pub use Rattle.rt_model.specs.State
 pub use Rattle.rt_model.specs.Stage
 pub use Rattle.rt_model.specs.Path
+pub use Rattle.rt_model.specs.Graph
+pub use Rattle.rt_model.specs.Rounds
 pub use Rattle.rt_model.specs.Effect
 pub use Rattle.rt_model.specs.Choice
 pub use Rattle.rt_model.specs.Rules

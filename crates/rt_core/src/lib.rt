@@ -4,6 +4,7 @@
 
 mod effect;
 mod enabled;
+mod graph;
 mod machine;
 #[cfg(test)]
 mod machine_tests;

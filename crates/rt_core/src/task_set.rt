@@ -1,4 +1,4 @@
-ghost use Rattle.std.specs.Prelude.{◌≡◌, ℕ, ◌<◌, false, None, IfSome, nat_eq, if◌then◌else◌};
+ghost use Rattle.std.specs.Prelude.{◌≡◌, ℕ, ◌<◌, ◌^◌, ◌||◌, false, None, IfSome, nat_eq, if◌then◌else◌};
 ghost use Rattle.rt_core.specs.TaskSet.{has, IsLowestIn};
 
 use rt_base::TaskId;
@@ -59,6 +59,24 @@ impl TaskSet {
         } else {
             self.word &= !bit;
         }
+    }
+
+    /// Puts a task that isn't in the set into it. The word grows.
+    pub fn add(&mut self, t: TaskId)
+        requires task { t.0 < MAX_TASKS }
+        requires absent { has self.old t.0 ≡ false }
+        ensures member { (u : ℕ) → u < MAX_TASKS → has self.new u ≡ (nat_eq t.0 u || has self.old u) }
+        ensures more { self.old < self.new }
+        ensures fits { self.new < 2 ^ 64 }
+    {
+        self.word |= 1 << t.0;
+    }
+
+    /// Puts all tasks of another set into this one.
+    pub fn join(&mut self, other: &TaskSet)
+        ensures { (u : ℕ) → has self.new u ≡ (has self.old u || has other.now u) }
+    {
+        self.word |= other.word;
     }
 }
 

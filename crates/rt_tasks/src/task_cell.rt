@@ -281,10 +281,7 @@ impl TaskCell {
             self.unblock();
         }
     }
-}
 
-// States and wakeups.
-impl TaskCell {
     /// Goes into a state, `set_current_state`.
     pub fn set_state(&mut self, s: TaskState)
         ensures { self.new ≡ record self.old { state = s } }

@@ -26,6 +26,7 @@ use Rattle.rt_model.specs.laws.AwakeTop.{AwakeTopLaw}
 use Rattle.rt_model.specs.laws.Lawful.{IsLawful}
 use Rattle.rt_model.specs.laws.Owners.{owned_by}
 use Rattle.rt_model.specs.laws.Rows.{IsAhead}
+use Rattle.rt_model.proofs.Calling.{asks-lock}
 use Rattle.rt_model.proofs.Lists.{if_some, if_found}
 use Rattle.rt_model.proofs.Named.{top_within}
 use Rattle.rt_model.proofs.NextEvents.{IsNext, by_own, by_acquire, by_wait, by_release, by_walk, by_confirm, by_signal, by_setprio}
@@ -33,7 +34,6 @@ use Rattle.rt_model.proofs.events.Acquire.{is_fast, is_mark, is_take, is_busy}
 use Rattle.rt_model.proofs.events.Wait.{IsWait, IsAgain, is_wait, is_again, is_leave}
 use Rattle.rt_model.proofs.events.Release.{IsGive, is_free, is_give}
 use Rattle.rt_model.proofs.events.Walk.{IsWalk, is_walk, is_walkend, is_restart, is_cycle}
-use Rattle.rt_model.proofs.Calling.{asks-lock}
 use Rattle.rt_model.proofs.Leaves.{IsLeft, by_leave, by_cycle, leave-left, cycle-left, left-locks}
 use Rattle.rt_model.proofs.Links.{slots_there, requeued-owner, link_lock, link-locks, link-slots}
 use Rattle.rt_model.proofs.Numbers.{number_itself, at_each_lock}

@@ -43,10 +43,12 @@ pub full-link : (s : State) (made : ℕ) (t : TaskId) (route : Route) (u : TaskI
 full-link s made t route u l key e path lawful full is =
     let next : Option Phase = link_next s made t route u l key e lawful is in
     let owner : TaskPart = task_at (shared s) (owner_part s l).owner in
-    let task : TaskPart = link_owner s made t route u l key e lawful is owner in
-    (task, ap blocking (where_changed-blocked (Some l) (owner_part s l).rows (link_lock s made t route u l key e lawful is).rows owner),
-    ap (λ (th : ThreadPart). th.phase) (thread-own s e _ is.event is.task ∙ link-thread s made t route u l key e lawful is)
-    ∙ (walked-phase (thread_part s t) route next ∙ ap (λ (r : Route). phase_of_walk r (goes_on t (followed u l r) (owner_part s l).owner task)) full))
+    let task : TaskPart = link_owner s made t route u l key e lawful is owner in (
+      task,
+      ap blocking (where_changed-blocked (Some l) (owner_part s l).rows (link_lock s made t route u l key e lawful is).rows owner),
+      ap (λ (th : ThreadPart). th.phase) (thread-own s e _ is.event is.task ∙ link-thread s made t route u l key e lawful is)
+          ∙ (walked-phase (thread_part s t) route next ∙ ap (λ (r : Route). phase_of_walk r (goes_on t (followed u l r) (owner_part s l).owner task)) full),
+    )
 
 module _ (s : State) (made : ℕ) (t : TaskId) (e : Event) (lawful : IsLawful s made) (next : IsNext s t e) where
   -- ---- other tasks

@@ -46,38 +46,44 @@ Walking n m t thread = IsWalkOf n m t (present_lock thread) thread.phase
 
 -- ---- a walk begins
 
+-- the empty path is one of a full walk at its own task
+empty_walk : (n m : ℕ) (t : TaskId) (lock : Option LockId) → IsFullWalk n m t lock t []
+empty_walk n m t lock = record {
+  begins = inl (refl, refl);
+  there = All-nil (λ (link : ℕ × ℕ). (link.0 < n) × (link.1 < m));
+  differ = λ i j d below inside. absurd (omega (arith, inside));
+  ahead = All-nil (λ (link : ℕ × ℕ). link.0 ≢ t.0);
+}
+
 -- a path of the walker's own link is one of a full walk at another task
 fresh_walk : (n m : ℕ) (t o : TaskId) (l : LockId) (lock : Option LockId) → t.0 < n → l.0 < m → lock ≡ Some l → nat_eq o.0 t.0 ≡ false → IsFullWalk n m t lock o ((t.0, l.0) ∷ [])
 fresh_walk n m t o l lock lt within on other =
-    subst (IsFullWalk n m t lock o) (cond-false (nat_eq t.0 o.0) [] ((t.0, l.0) ∷ []) (other_way t o other))
-    (full-goes n m t t o l lock [] lt within
-    (record { begins = inl (refl, refl); there = All-nil (λ (link : ℕ × ℕ). (link.0 < n) × (link.1 < m)); differ = λ i j d below inside. absurd (omega (arith, inside)); ahead = All-nil (λ (link : ℕ × ℕ). link.0 ≢ t.0) }) (λ same. on))
+    subst (IsFullWalk n m t lock o) (cond-false (nat_eq t.0 o.0) [] ((t.0, l.0) ∷ []) (other_way t o other)) (full-goes n m t t o l lock [] lt within (empty_walk n m t lock) (λ same. on))
 
 -- so that of a task that has been queued
-wait_walks : (n m : ℕ) (thread : ThreadPart) (t : TaskId) (l : LockId) (owner : Option TaskId) (blocked : Bool) → t.0 < n → l.0 < m → present_lock thread ≡ Some l → owned_by owner t ≡ false → IfSome owner (λ o. o.0 < n)
-    → Walking n m t (record thread { phase = phase_after_wait t (Some l) owner blocked })
+wait_walks : (n m : ℕ) (thread : ThreadPart) (t : TaskId) (l : LockId) (owner : Option TaskId) (blocked : Bool) → t.0 < n → l.0 < m → present_lock thread ≡ Some l
+    → owned_by owner t ≡ false → IfSome owner (λ o. o.0 < n) → Walking n m t (record thread { phase = phase_after_wait t (Some l) owner blocked })
 wait_walks n m thread t l (Some o) true lt within on other there = (there, fresh_walk n m t o l (present_lock thread) lt within on other)
 wait_walks n m thread t l (Some o) false lt within on other there = tt
 wait_walks n m thread t l None blocked lt within on other there = tt
 
 -- ---- a walk goes on
 
--- at the owner of the lock that it left, or not at all; where its cursor is the walker, that lock is the walker's, who doesn't own it
-link_walks : (n m : ℕ) (thread : ThreadPart) (t u : TaskId) (l : LockId) (route : Route) (owner : Option TaskId) (task : TaskPart) → IsWalkOf n m t (present_lock thread) (phases.Walk u route) → l.0 < m
-    → IfSome owner (λ o. o.0 < n) → owned_by owner u ≡ false → (u ≡ t → awaited_in (phases.Walk u route) (present_lock thread) ≡ Some l)
+-- a short one at the owner of the lock that it left, or not at all; so does one that begins, with an answer to come
+short_walks : (n m : ℕ) (thread : ThreadPart) (t : TaskId) (answer : Reply) (owner : Option TaskId) (task : TaskPart) → IfSome owner (λ o. o.0 < n)
+    → Walking n m t (walked_thread thread (Short answer) (goes_on t (Short answer) owner task))
+short_walks n m thread t answer owner task there =
+    short-holds (λ next. Walking n m t (walked_thread thread (Short answer) next)) t answer owner task tt (λ o some old. subst (λ (p : Option TaskId). IfSome p (λ v. v.0 < n)) some there)
+
+-- and a full one, too, or it is to be confirmed; its cursor doesn't own that lock, and where it is the walker, that is the walker's
+link_walks : (n m : ℕ) (thread : ThreadPart) (t u : TaskId) (l : LockId) (route : Route) (owner : Option TaskId) (task : TaskPart) → IsWalkOf n m t (present_lock thread) (phases.Walk u route)
+    → l.0 < m → IfSome owner (λ o. o.0 < n) → owned_by owner u ≡ false → (u ≡ t → awaited_in (phases.Walk u route) (present_lock thread) ≡ Some l)
     → Walking n m t (walked_thread thread route (goes_on t (followed u l route) owner task))
 link_walks n m thread t u l (Full path) owner task walks within there unowned own =
     full-holds (λ next. Walking n m t (walked_thread thread (Full path) next)) t (path ++ (u.0, l.0) ∷ []) owner task tt
     (λ back blocked. full-confirms n m t u l (present_lock thread) path walks.0 within walks.1 (sym (ap (λ (p : Option TaskId). owned_by p u) back) ∙ unowned))
     (λ o some stands. (subst (λ (p : Option TaskId). IfSome p (λ v. v.0 < n)) some there, full-goes n m t u o l (present_lock thread) path walks.0 within walks.1 own))
-link_walks n m thread t u l (Short answer) owner task walks within there unowned own =
-    short-holds (λ next. Walking n m t (walked_thread thread (Short answer) next)) t answer owner task tt (λ o some old. subst (λ (p : Option TaskId). IfSome p (λ v. v.0 < n)) some there)
-
--- and one that begins there, with an answer to come
-short_walks : (n m : ℕ) (thread : ThreadPart) (t : TaskId) (answer : Reply) (owner : Option TaskId) (task : TaskPart) → IfSome owner (λ o. o.0 < n)
-    → Walking n m t (walked_thread thread (Short answer) (goes_on t (Short answer) owner task))
-short_walks n m thread t answer owner task there =
-    short-holds (λ next. Walking n m t (walked_thread thread (Short answer) next)) t answer owner task tt (λ o some old. subst (λ (p : Option TaskId). IfSome p (λ v. v.0 < n)) some there)
+link_walks n m thread t u l (Short answer) owner task walks within there unowned own = short_walks n m thread t answer owner task there
 
 -- one that ends is none any more
 end_walks : (n m : ℕ) (thread : ThreadPart) (t : TaskId) (route : Route) → Walking n m t (walked_thread thread route None)
@@ -85,13 +91,16 @@ end_walks n m thread t (Full path) = tt
 end_walks n m thread t (Short answer) = tt
 
 -- what the law says of a walk
-walks_at : (s : State) (t : TaskId) (route : Route) (u : TaskId) → WalksLaw s → (thread_part s t).phase ≡ phases.Walk u route → IsWalkOf (length s.threads) (length s.locks) t (present_lock (thread_part s t)) (phases.Walk u route)
+walks_at : (s : State) (t : TaskId) (route : Route) (u : TaskId) → WalksLaw s → (thread_part s t).phase ≡ phases.Walk u route
+    → IsWalkOf (length s.threads) (length s.locks) t (present_lock (thread_part s t)) (phases.Walk u route)
 walks_at s t route u law phase = subst (IsWalkOf (length s.threads) (length s.locks) t (present_lock (thread_part s t))) phase (law t)
 
 -- ---- the law
 
 pub WalksLaw-next : (s : State) (made : ℕ) (t : TaskId) (e : Event) → IsLawful s made → IsNext s t e → WalksLaw (state_after s e)
-WalksLaw-next s made t e lawful next v = subst (λ (k : ℕ). Walking k (length (state_after s e).locks) v (thread_part (state_after s e) v)) (sym long) (subst (λ (k : ℕ). Walking n k v (thread_part (state_after s e) v)) (sym wide) (by_kind next))
+WalksLaw-next s made t e lawful next v =
+    subst (λ (k : ℕ). Walking k (length (state_after s e).locks) v (thread_part (state_after s e) v)) (sym long)
+    (subst (λ (k : ℕ). Walking n k v (thread_part (state_after s e) v)) (sym wide) (by_kind next))
   where
     n : ℕ
     n = length s.threads
@@ -119,7 +128,8 @@ WalksLaw-next s made t e lawful next v = subst (λ (k : ℕ). Walking k (length 
     left : (l : LockId) (is : IsLeft s t l e) → Walking n m v (thread_part (state_after s e) v)
     left l is =
         own (left_made s t l e is) (left-is s t l e is) (left-there s made t l e lawful is)
-        (subst (Walking n m t) (sym (left-thread s made t l e lawful is)) (short_walks n m (thread_part s t) t (left_answer is) (owner_part s l).owner _ (owner_within s l lawful.shape (left-lock_there s made t l e lawful is))))
+        (subst (Walking n m t) (sym (left-thread s made t l e lawful is))
+        (short_walks n m (thread_part s t) t (left_answer is) (owner_part s l).owner _ (owner_within s l lawful.shape (left-lock_there s made t l e lawful is))))
 
     by_kind : IsNext s t e → Walking n m v (thread_part (state_after s e) v)
     by_kind (by_own call answer is) = own _ is.event is.at.task tt
@@ -128,9 +138,9 @@ WalksLaw-next s made t e lawful next v = subst (λ (k : ℕ). Walking k (length 
     by_kind (by_acquire l (is_take is)) = own _ is.event is.task tt
     by_kind (by_acquire l (is_busy is)) = own _ is.event is.at.task tt
     by_kind (by_wait l (is_wait is)) =
+        let lock = asks-lock s t phases.Slow l is.at in
         own _ is.event is.at.at.task
-        (wait_walks n m (thread_part s t) t l (owner_part s l).owner _ is.at.at.task (asks-lock s t phases.Slow l is.at) (asks-present s t phases.Slow l is.at) (slow-unowned s made t lawful l is.at)
-        (owner_within s l lawful.shape (asks-lock s t phases.Slow l is.at)))
+        (wait_walks n m (thread_part s t) t l (owner_part s l).owner _ is.at.at.task lock (asks-present s t phases.Slow l is.at) (slow-unowned s made t lawful l is.at) (owner_within s l lawful.shape lock))
     by_kind (by_wait l (is_again is)) = own _ is.event is.at.at.task (lawful.walks t)
     by_kind (by_wait l (is_leave is)) = left l (leave-left s t l e is)
     by_kind (by_release l (is_free is)) = own _ is.event is.at.task tt
@@ -139,17 +149,15 @@ WalksLaw-next s made t e lawful next v = subst (λ (k : ℕ). Walking k (length 
         let link = walk-link s made t route u l key e lawful is in
         own _ is.event is.task
         (subst (Walking n m t) (sym (link-thread s made t route u l key e lawful is))
-        (link_walks n m (thread_part s t) t u l route (owner_part s l).owner _ (walks_at s t route u lawful.walks (walk-phase s t route u is.how)) link.lock (owner_within s l lawful.shape link.lock) link.unowned
-        (its_lock route u l key is)))
+        (link_walks n m (thread_part s t) t u l route (owner_part s l).owner _ (walks_at s t route u lawful.walks (walk-phase s t route u is.how)) link.lock
+        (owner_within s l lawful.shape link.lock) link.unowned (its_lock route u l key is)))
     by_kind (by_walk route u (is_walkend is)) = own _ is.event is.task (subst (Walking n m t) (sym (end-thread s t route u e is)) (end_walks n m (thread_part s t) t route))
-    by_kind (by_confirm l path (is_restart link is)) = own _ is.event is.at.at.task (is.at.at.task, restarted)
-      where
-        restarted : IsFullWalk n m t (present_lock (thread_part s t)) t []
-        restarted = record { begins = inl (refl, refl); there = All-nil (λ (pair : ℕ × ℕ). (pair.0 < n) × (pair.1 < m)); differ = λ i j d below inside. absurd (omega (arith, inside)); ahead = All-nil (λ (pair : ℕ × ℕ). pair.0 ≢ t.0) }
+    by_kind (by_confirm l path (is_restart link is)) = own _ is.event is.at.at.task (is.at.at.task, empty_walk n m t (present_lock (thread_part s t)))
     by_kind (by_confirm l path (is_cycle is)) = left l (cycle-left s made t l path e lawful is)
     by_kind (by_signal u is) = own _ is.event is.at.task tt
     by_kind (by_setprio u prio is) =
-        own _ is.event is.at.task (subst (Walking n m t) (sym (setprio-thread s made t u prio e lawful is)) (short_walks n m (thread_part s t) t Done (Some u) (with_own prio (task_part s u)) is.at.served.0))
+        own _ is.event is.at.task
+        (subst (Walking n m t) (sym (setprio-thread s made t u prio e lawful is)) (short_walks n m (thread_part s t) t Done (Some u) (with_own prio (task_part s u)) is.at.served.0))
 
 -- ---- a push has room
 

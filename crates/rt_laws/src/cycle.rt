@@ -8,10 +8,10 @@ ghost use Rattle.rt_laws.specs.Cycle.{IsOnNone};
 use rt_base::{LockId, Path, TaskId};
 use rt_core::Core;
 
-/// The cycle that begins with a task: each of its tasks is blocked on a lock whose owner is the next one, and the last
-/// one's lock is owned by the first. There is none exactly where no cycle goes through the task, as where it only
-/// leads into one. Nothing is asked of walks, so while they are pending a cycle that stands is told, too; at rest
-/// there is none.
+/// The cycle that begins with a task: each of its tasks is blocked on a lock that the next one owns, and the
+/// last one on a lock that the first one owns. There is none exactly where no cycle goes through the task; so
+/// a task that only leads into one has none. It is told of the state as it stands, also while walks are
+/// pending; at rest there is none at any task.
 pub fn cycle_at(core: &Core, t: TaskId) -> Option<Path>
     requires { t.0 < length core.now.state.threads }
     ensures some { IfSome result (λ path. IsCycle core.now.state path × (first_task t path ≡ t)) }

@@ -5,6 +5,8 @@
 #![tactic(auto)]
 
 mod cycle;
+#[cfg(test)]
+mod laws_tests;
 mod rest;
 
 pub use cycle::cycle_at;

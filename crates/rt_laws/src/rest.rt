@@ -9,12 +9,11 @@ ghost use Rattle.rt_model.specs.laws.Rest.{IsAtRest};
 use rt_base::limits::MAX_TASKS;
 use rt_core::Core;
 
-/// Whether no chain walk is pending, with all its links made or not yet confirmed.
+/// Whether no chain walk is pending: none has links left to make, or a path to be confirmed.
 ///
-/// At rest each task's effective priority is the least own one among the task and all from which edges lead to it,
-/// and no cycle stands: of tasks that waited in a circle one was answered. While walks are pending, neither has to
-/// hold. A better priority may not have come through to the end of a chain, nor a worse one; and a cycle may stand,
-/// of which some walk that goes along it is still to tell. Once those walks are at their end, both hold again.
+/// At rest each task's effective priority is the least own one among the task and all tasks from which edges
+/// lead to it, and no cycle stands. While walks are pending neither has to hold: a priority may not have come
+/// to the end of its chain yet, and a cycle may stand of which the walk that goes along it is still to tell.
 pub fn at_rest(core: &Core) -> bool
     ensures rest { IsTrue result ↔ IsAtRest core.now.state }
     ensures priorities { IsTrue result → (t : TaskId) → IsGraphPriority core.now.state t (effective_of (task_part core.now.state t)) }

@@ -154,7 +154,8 @@ module _ (s : State) (t here : TaskId) (path : List (ℕ × ℕ)) (was : IsFollo
         leaves (first ∷ p) (same, off, left) =
             (same, All-append (λ (pair : ℕ × ℕ). t.0 ≢ pair.0) p _ off (All-cons (λ (pair : ℕ × ℕ). t.0 ≢ pair.0) (here.0, l.0) [] left (All-nil (λ (pair : ℕ × ℕ). t.0 ≢ pair.0))), apart)
 
-        goes_on : (cycle : List (ℕ × ℕ)) (pair : ℕ × ℕ) (rest : List (ℕ × ℕ)) → cycle ≡ path ++ pair ∷ rest → pair ≡ (here.0, l.0) → first_task t rest ≡ o → GoesOn cycle o (path ++ (here.0, l.0) ∷ [])
+        goes_on : (cycle : List (ℕ × ℕ)) (pair : ℕ × ℕ) (rest : List (ℕ × ℕ)) → cycle ≡ path ++ pair ∷ rest → pair ≡ (here.0, l.0) → first_task t rest ≡ o
+            → GoesOn cycle o (path ++ (here.0, l.0) ∷ [])
         goes_on cycle pair [] is same next = absurd (apart (ap (λ (u : TaskId). u.0) next))
         goes_on cycle pair (second ∷ rest) is same next =
             (second, rest, subst (λ (p : ℕ × ℕ). cycle ≡ path ++ p ∷ second ∷ rest) same is ∙ sym (append_assoc path ((here.0, l.0) ∷ []) (second ∷ rest)), next)
@@ -193,7 +194,9 @@ module _ (s : State) (t here : TaskId) (path : List (ℕ × ℕ)) (was : IsFollo
 -- where no cycle begins with a task, none goes through it
 pub on-no-cycle : (s : State) (t : TaskId) → ((cycle : List (ℕ × ℕ)) → IsCycle s cycle → first_task t cycle ≡ t → ⊥) → (cycle : List (ℕ × ℕ)) → IsCycle s cycle → NamesOthers t cycle
 on-no-cycle s t none cycle stands = elim (on-or-off t cycle) [
-  | inl on ↦ absurd (none (on.pair ∷ on.back ++ on.front) (turned-cycle s cycle (on.pair ∷ on.back ++ on.front) (record { front = on.front; back = on.pair ∷ on.back; before = on.along; after = refl }) stands) on.same)
+  | inl on ↦
+      let turned = on.pair ∷ on.back ++ on.front in
+      absurd (none turned (turned-cycle s cycle turned (record { front = on.front; back = on.pair ∷ on.back; before = on.along; after = refl }) stands) on.same)
   | inr off ↦ All-weaker (λ (pair : ℕ × ℕ). nat_eq t.0 pair.0 ≡ false) (λ (pair : ℕ × ℕ). t.0 ≢ pair.0) (λ pair ne. other_number t.0 pair.0 ne) cycle off
 ]
 

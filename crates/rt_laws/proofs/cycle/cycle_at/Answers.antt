@@ -2,9 +2,9 @@ use Rattle.std.proofs.Common.{rules, ℕ, ◌<◌, List, [], ◌∷◌, refl, �
 use Rattle.rt_base.specs.declared.id.LockId.{LockId}
 use Rattle.rt_base.specs.declared.id.TaskId.{TaskId}
 use Rattle.rt_model.specs.Path.{Edge, IsCycle, first_task}
+use Rattle.rt_model.specs.Graph.{at_once}
 use Rattle.rt_model.proofs.Numbers.{same_task, other_number}
 use Rattle.rt_model.proofs.graph.Reaching.{leads-apart, no-edge}
-use Rattle.rt_model.specs.Graph.{at_once}
 use Rattle.rt_model.proofs.graph.Followed.{IsFollowed, followed-none, followed-more, followed-back, followed-over, followed-long, on-no-cycle, on-cycle}
 use Rattle.rt_laws.proofs.cycle.cycle_at.Goals.{After-eq, Then-eq}
 use Rattle.rt_laws.proofs.cycle.cycle_at.Goals as goal
@@ -54,6 +54,7 @@ loop-preserved c = (
 pub returns-clause-none : goal.returns-clause-none
 returns-clause-none c = (
   λ none. on-no-cycle c.args.core.now.state c.args.t
-      (followed-long c.args.core.now.state c.args.t c.loop.here c.loop.path c.loop.invariant.0 (omega (arith, c.loop.invariant.2, c.loop-test.false, c.tasks-end.ensures.number, c.tasks-end.ensures.lawful.shape.tasks))),
+      (followed-long c.args.core.now.state c.args.t c.loop.here c.loop.path c.loop.invariant.0
+      (omega (arith, c.loop.invariant.2, c.loop-test.false, c.tasks-end.ensures.number, c.tasks-end.ensures.lawful.shape.tasks))),
   λ on. refl,
 )

@@ -11,7 +11,7 @@ use Rattle.rt_model.proofs.Numbers.{same_number, same_task, number_itself}
 use Rattle.rt_model.proofs.graph.Reaching.{owners-there}
 use Rattle.rt_model.proofs.graph.Rounds.{round-none, round-more, known-near, known-far, known-priority}
 use Rattle.rt_core.specs.TaskSet.{has}
-use Rattle.rt_core.specs.KnownSets.{set_of, in_either, is_in, IsLeastOwn}
+use Rattle.rt_core.specs.KnownSets.{set_of, in_either, in_any, is_in, IsLeastOwn}
 
 -- ---- a round
 
@@ -31,21 +31,21 @@ on-none s near far u round there none = record {
 }
 
 -- a task of which nothing is known is another one than one that is near
-apart : (near far round : ℕ) (w t : TaskId) → (in_either near far w.0 || has round w.0) ≡ false → has near t.0 ≡ true → nat_eq w.0 t.0 ≡ false
+apart : (near far round : ℕ) (w t : TaskId) → in_any near far round w.0 ≡ false → has near t.0 ≡ true → nat_eq w.0 t.0 ≡ false
 apart near far round w t new is = by_test (nat_eq w.0 t.0) refl
   where
     by_test : (b : Bool) → nat_eq w.0 t.0 ≡ b → b ≡ false
     by_test false at = refl
     by_test true at =
         let here : has near w.0 ≡ true = ap (has near) (same_number w.0 t.0 at) ∙ is in
-        let known : (in_either near far w.0 || has round w.0) ≡ true = or_left (in_either near far w.0) (has round w.0) (or_left (has near w.0) (has far w.0) here) in
+        let known : in_any near far round w.0 ≡ true = or_left (in_either near far w.0) (has round w.0) (or_left (has near w.0) (has far w.0) here) in
         sym known ∙ new
 
 module _ (s : State) (made : ℕ) (near far : ℕ) (u : TaskId) (lawful : IsLawful s made) where
   within64 : (v : TaskId) → v.0 < length s.tasks → v.0 < 64
   within64 v lt = let few = lawful.shape.few_tasks in let long = lawful.shape.tasks in omega arith
 
-  pub on-more : (w : TaskId) (round more : ℕ) (next : Option TaskId) → (in_either near far w.0 || has round w.0) ≡ false → ((v : ℕ) → v < 64 → has more v ≡ (nat_eq w.0 v || has round v))
+  pub on-more : (w : TaskId) (round more : ℕ) (next : Option TaskId) → in_any near far round w.0 ≡ false → ((v : ℕ) → v < 64 → has more v ≡ (nat_eq w.0 v || has round v))
       → next ≡ leads_to s w → IfSome next (λ v. v.0 < length s.threads) → IsOnRound s near far u round (Some w) → IsOnRound s near far u more next
   on-more w round more next new is leads within was = record {
     rounds = λ t lt at. subst (IsRound s t (set_of more)) (sym leads)
@@ -62,8 +62,8 @@ module _ (s : State) (made : ℕ) (near far : ℕ) (u : TaskId) (lawful : IsLawf
       here = let few = lawful.shape.few_tasks in let lt = was.from in omega arith
 
   -- what is known once it is at its end
-  pub ended : (t : TaskId) (round more : ℕ) (here : Option TaskId) → t.0 < length s.tasks → IfSome here (λ w. w.0 < length s.threads) → (has near t.0 ≡ true → IsRound s t (set_of round) here)
-      → AreKnown s t (set_of near) (set_of far) → is_in near here ≡ true → ((v : ℕ) → has more v ≡ (has near v || has round v)) → AreKnown s t (set_of more) (set_of far)
+  pub ended : (t : TaskId) (round more : ℕ) (here : Option TaskId) → t.0 < length s.tasks → IfSome here (λ w. w.0 < length s.threads)
+      → (has near t.0 ≡ true → IsRound s t (set_of round) here) → AreKnown s t (set_of near) (set_of far) → is_in near here ≡ true → ((v : ℕ) → has more v ≡ (has near v || has round v)) → AreKnown s t (set_of more) (set_of far)
   ended t round more None lt within was known at is = absurd (no at)
     where
       no : false ≡ true → ⊥
@@ -72,12 +72,12 @@ module _ (s : State) (made : ℕ) (near far : ℕ) (u : TaskId) (lawful : IsLawf
       known-near s t w (set_of near) (set_of far) (set_of round) (set_of more) lt (subst (λ (n : ℕ). w.0 < n) (sym lawful.shape.tasks) within) (λ v there. is v.0) known (was known.itself) at
 
   -- and where that isn't near
-  pub ended-far : (t : TaskId) (round more : ℕ) (here : Option TaskId) → t.0 < length s.tasks → IfSome here (λ w. (in_either near far w.0 || has round w.0) ≡ true) → (has near t.0 ≡ true → IsRound s t (set_of round) here)
-      → AreKnown s t (set_of near) (set_of far) → is_in near here ≡ false → ((v : ℕ) → has more v ≡ (has far v || has round v)) → AreKnown s t (set_of near) (set_of more)
+  pub ended-far : (t : TaskId) (round more : ℕ) (here : Option TaskId) → t.0 < length s.tasks → IfSome here (λ w. in_any near far round w.0 ≡ true)
+      → (has near t.0 ≡ true → IsRound s t (set_of round) here) → AreKnown s t (set_of near) (set_of far) → is_in near here ≡ false → ((v : ℕ) → has more v ≡ (has far v || has round v)) → AreKnown s t (set_of near) (set_of more)
   ended-far t round more here lt end was known away is =
       known-far s t (set_of near) (set_of far) (set_of round) (set_of more) here (owners-there s lawful.shape) lt (λ v there. is v.0) known (was known.itself) (far-end here end away)
     where
-      far-end : (here : Option TaskId) → IfSome here (λ w. (in_either near far w.0 || has round w.0) ≡ true) → is_in near here ≡ false → IfSome here (λ w. (has far w.0 || has round w.0) ≡ true)
+      far-end : (here : Option TaskId) → IfSome here (λ w. in_any near far round w.0 ≡ true) → is_in near here ≡ false → IfSome here (λ w. (has far w.0 || has round w.0) ≡ true)
       far-end None end away = tt
       far-end (Some w) end away = subst (λ (b : Bool). ((b || has far w.0) || has round w.0) ≡ true) away end
 

@@ -13,6 +13,10 @@ set_of word u = has word u.0
 abbrev pub in_either : ℕ → ℕ → ℕ → Bool
 in_either near far u = has near u || has far u
 
+-- it is in one of these, or in the round
+abbrev pub in_any : ℕ → ℕ → ℕ → ℕ → Bool
+in_any near far round u = in_either near far u || has round u
+
 -- there is a task here, in the set
 abbrev pub is_in : ℕ → Option TaskId → Bool
 is_in near None = false

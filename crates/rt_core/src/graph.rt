@@ -7,7 +7,7 @@ ghost use Rattle.rt_model.specs.Graph.{leads_to, IsGraphPriority};
 ghost use Rattle.rt_model.specs.Rounds.{AreKnown, IsRound};
 ghost use Rattle.rt_model.specs.laws.Lawful.{IsLawful};
 ghost use Rattle.rt_core.specs.TaskSet.{has};
-ghost use Rattle.rt_core.specs.KnownSets.{set_of, in_either, is_in, IsLeastOwn};
+ghost use Rattle.rt_core.specs.KnownSets.{set_of, in_either, in_any, is_in, IsLeastOwn};
 
 use crate::Core;
 use crate::task_set::TaskSet;
@@ -83,10 +83,12 @@ impl Known {
     fn look_at(&mut self, core: &Core, u: TaskId)
         requires task { u.0 < length core.now.state.threads }
         requires lawful { IsLawful core.now.state core.now.made }
-        ensures known { (t : Task) → t.0 < length core.now.state.tasks → AreKnown core.now.state t (set_of self.old.near) (set_of self.old.far)
+        ensures known { (t : Task) → t.0 < length core.now.state.tasks
+            → AreKnown core.now.state t (set_of self.old.near) (set_of self.old.far)
             → AreKnown core.now.state t (set_of self.new.near) (set_of self.new.far) }
         ensures first { in_either self.new.near self.new.far u.0 ≡ true }
-        ensures kept { (v : ℕ) → in_either self.old.near self.old.far v ≡ true → in_either self.new.near self.new.far v ≡ true }
+        ensures kept { (v : ℕ) → in_either self.old.near self.old.far v ≡ true
+            → in_either self.new.near self.new.far v ≡ true }
     {
         let round = round_from(core, self, u);
         if self.is_near(round.here) {
@@ -112,10 +114,11 @@ impl Known {
 fn round_from(core: &Core, known: &Known, u: TaskId) -> Round
     requires task { u.0 < length core.now.state.threads }
     requires lawful { IsLawful core.now.state core.now.made }
-    ensures round { (t : Task) → t.0 < length core.now.state.tasks → has known.now.near t.0 ≡ true → IsRound core.now.state t (set_of result.tasks) result.here }
+    ensures round { (t : Task) → t.0 < length core.now.state.tasks → has known.now.near t.0 ≡ true
+        → IsRound core.now.state t (set_of result.tasks) result.here }
     ensures within { IfSome result.here (λ w. w.0 < length core.now.state.threads) }
-    ensures end { IfSome result.here (λ w. (in_either known.now.near known.now.far w.0 || has result.tasks w.0) ≡ true) }
-    ensures first { (in_either known.now.near known.now.far u.0 || has result.tasks u.0) ≡ true }
+    ensures end { IfSome result.here (λ w. in_any known.now.near known.now.far result.tasks w.0 ≡ true) }
+    ensures first { in_any known.now.near known.now.far result.tasks u.0 ≡ true }
 {
     let mut round = Round {
         tasks: TaskSet::empty(),
@@ -133,8 +136,9 @@ impl Round {
     fn next(&self, known: &Known) -> Option<TaskId>
         requires { IfSome self.now.here (λ w. w.0 < MAX_TASKS) }
         ensures here { IfSome result (λ w. self.now.here ≡ Some w) }
-        ensures new { IfSome result (λ w. (in_either known.now.near known.now.far w.0 || has self.now.tasks w.0) ≡ false) }
-        ensures end { result ≡ None → IfSome self.now.here (λ w. (in_either known.now.near known.now.far w.0 || has self.now.tasks w.0) ≡ true) }
+        ensures new { IfSome result (λ w. in_any known.now.near known.now.far self.now.tasks w.0 ≡ false) }
+        ensures end { result ≡ None
+            → IfSome self.now.here (λ w. in_any known.now.near known.now.far self.now.tasks w.0 ≡ true) }
     {
         let Some(w) = self.here else { return None };
         if known.has(w) || self.tasks.contains(w) {

@@ -5,6 +5,8 @@
 mod effect;
 mod enabled;
 mod graph;
+#[cfg(test)]
+mod graph_tests;
 mod machine;
 #[cfg(test)]
 mod machine_tests;

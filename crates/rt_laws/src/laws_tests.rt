@@ -164,11 +164,14 @@ fn moves(rt: &impl Abort, core: &mut Core, t: TaskId) -> Option<EventKind> {
     Some(event.kind)
 }
 
-// Compares whether no walk is pending, and the cycle at each task: where the task is on it, it is told from
-// there on.
+// Compares whether no walk is pending, when effective priorities are graph priorities, and the cycle at each
+// task: where the task is on it, it is told from there on.
 fn tells(rt: &impl Abort, core: &Core, rest: bool, cycle: &[(TaskId, LockId)]) {
     assert_eq!(rt; at_rest(core), rest);
     for t in 0..core.tasks() {
+        if rest {
+            assert_eq!(rt; core.effective(TaskId(t)), core.graph_priority(TaskId(t)));
+        }
         let found = cycle_at(core, TaskId(t));
         let at = cycle.iter().position(|pair| pair.0.0 == t);
         assert_eq!(rt; found.is_some(), at.is_some());

@@ -36,10 +36,10 @@ same_length s t [] (pair ∷ other) edges also apart off same = absurd (All-head
 same_length s t (pair ∷ path) [] edges also apart off same = absurd (All-head (λ (p : ℕ × ℕ). t.0 ≢ p.0) pair path apart (ap (λ (u : TaskId). u.0) (sym same)))
 same_length s t (pair ∷ path) (first ∷ other) edges also apart off same =
     let next : first_task t path ≡ first_task t other = one-edge s (task_of_pair first) (first_task t path) (first_task t other)
-        (subst (λ (u : TaskId). Leads s u (first_task t path)) same (first_edge s t pair path edges)) (first_edge s t first other also) in
+    (subst (λ (u : TaskId). Leads s u (first_task t path)) same (first_edge s t pair path edges)) (first_edge s t first other also) in
     ap suc (same_length s t path other
-        (All-tail (Edge s) _ (links_to t path) edges) (All-tail (Edge s) _ (links_to t other) also)
-        (All-tail (λ (p : ℕ × ℕ). t.0 ≢ p.0) pair path apart) (All-tail (λ (p : ℕ × ℕ). t.0 ≢ p.0) first other off) next)
+    (All-tail (Edge s) _ (links_to t path) edges) (All-tail (Edge s) _ (links_to t other) also)
+    (All-tail (λ (p : ℕ × ℕ). t.0 ≢ p.0) pair path apart) (All-tail (λ (p : ℕ × ℕ). t.0 ≢ p.0) first other off) next)
 
 links_back : (s : State) (t : TaskId) (front : List (ℕ × ℕ)) (pair : ℕ × ℕ) (back : List (ℕ × ℕ)) → LeadsBy s t (front ++ pair ∷ back) → LeadsBy s t (pair ∷ back)
 links_back s t front pair back edges = All-back (Edge s) (links_to (task_of_pair pair) front) (links_to t (pair ∷ back)) (subst (All (Edge s)) (links-append t front pair back) edges)
@@ -60,7 +60,7 @@ tasks_differ s t (pair ∷ path) edges apart = AllPairs-cons Differ pair path ot
         let whole : LeadsBy s t (on.front ++ on.pair ∷ on.back) = subst (LeadsBy s t) on.along rest in
         let names : NamesOthers t (on.front ++ on.pair ∷ on.back) = subst (NamesOthers t) on.along off in
         let long = same_length s t (pair ∷ path) (on.pair ∷ on.back) edges (links_back s t on.front on.pair on.back whole)
-            apart (All-back (λ (p : ℕ × ℕ). t.0 ≢ p.0) on.front (on.pair ∷ on.back) names) (sym on.same) in
+        apart (All-back (λ (p : ℕ × ℕ). t.0 ≢ p.0) on.front (on.pair ∷ on.back) names) (sym on.same) in
         let more : length path ≡ length (on.front ++ on.pair ∷ on.back) = ap length on.along in
         omega (arith, long, more, length-append on.front (on.pair ∷ on.back))
 
@@ -166,7 +166,7 @@ module _ (s : State) (t here : TaskId) (path : List (ℕ × ℕ)) (was : IsFollo
             let next = next_edge s t path on.0 on.1 cycle stands first on.2 in
             let same : task_of_pair on.0 ≡ here = on.3 in
             let from_here : Edge s (record { from = here; lock = record { 0 = on.0.1 }; to = first_task t on.1 }) =
-                subst (λ (u : TaskId). Edge s (record { from = u; lock = record { 0 = on.0.1 }; to = first_task t on.1 })) same next in
+            subst (λ (u : TaskId). Edge s (record { from = u; lock = record { 0 = on.0.1 }; to = first_task t on.1 })) same next in
             let lock : record { 0 = on.0.1 } ≡ l = one_lock s here (first_task t on.1) o (record { 0 = on.0.1 }) l from_here edge in
             let leads = one-edge s here (first_task t on.1) o (record { 0 = on.0.1 }, from_here) (l, edge) in
             goes_on cycle on.0 on.1 on.2 (pairs on.0 same lock) leads
@@ -183,13 +183,15 @@ module _ (s : State) (t here : TaskId) (path : List (ℕ × ℕ)) (was : IsFollo
         closed (pair ∷ p) (same, off, left) edges =
             let rest = p ++ (here.0, l.0) ∷ [] in
             let names : NamesOthers t rest =
-                All-append (λ (q : ℕ × ℕ). t.0 ≢ q.0) p _ off (All-cons (λ (q : ℕ × ℕ). t.0 ≢ q.0) (here.0, l.0) [] left (All-nil (λ (q : ℕ × ℕ). t.0 ≢ q.0))) in
-            (record {
-              many = omega (arith, length-append p ((here.0, l.0) ∷ []));
-              differ = AllPairs-cons Differ pair rest (subst (λ (u : TaskId). All (λ (q : ℕ × ℕ). u.0 ≢ q.0) rest) (sym same) names)
-                  (tasks_differ s t rest (All-tail (Edge s) _ (links_to t rest) edges) names);
-              edges = subst (λ (u : TaskId). LeadsBy s u (pair ∷ rest)) (sym same) edges;
-            }, same)
+            All-append (λ (q : ℕ × ℕ). t.0 ≢ q.0) p _ off (All-cons (λ (q : ℕ × ℕ). t.0 ≢ q.0) (here.0, l.0) [] left (All-nil (λ (q : ℕ × ℕ). t.0 ≢ q.0))) in (
+              record {
+                many = omega (arith, length-append p ((here.0, l.0) ∷ []));
+                differ = AllPairs-cons Differ pair rest (subst (λ (u : TaskId). All (λ (q : ℕ × ℕ). u.0 ≢ q.0) rest) (sym same) names)
+                    (tasks_differ s t rest (All-tail (Edge s) _ (links_to t rest) edges) names);
+                edges = subst (λ (u : TaskId). LeadsBy s u (pair ∷ rest)) (sym same) edges;
+              },
+              same,
+            )
 
 -- where no cycle begins with a task, none goes through it
 pub on-no-cycle : (s : State) (t : TaskId) → ((cycle : List (ℕ × ℕ)) → IsCycle s cycle → first_task t cycle ≡ t → ⊥) → (cycle : List (ℕ × ℕ)) → IsCycle s cycle → NamesOthers t cycle

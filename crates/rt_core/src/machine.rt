@@ -194,7 +194,8 @@ impl Core {
 
     /// How many tasks' chain walks are unfinished.
     pub fn walks(&self) -> u32
-        ensures { result ≡ count_by (λ thread. in_walk thread.phase) self.now.state.threads }
+        ensures walks { result ≡ count_by (λ thread. in_walk thread.phase) self.now.state.threads }
+        ensures lawful { IsLawful self.now.state self.now.made }
     {
         self.threads
             .iter()

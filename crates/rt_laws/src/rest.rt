@@ -6,7 +6,6 @@ ghost use Rattle.rt_model.specs.Path.{IsCycle};
 ghost use Rattle.rt_model.specs.Graph.{IsGraphPriority};
 ghost use Rattle.rt_model.specs.laws.Rest.{IsAtRest};
 
-use rt_base::limits::MAX_TASKS;
 use rt_core::Core;
 
 /// Whether no chain walk is pending: none has links left to make, or a path to be confirmed.
@@ -20,8 +19,5 @@ pub fn at_rest(core: &Core) -> bool
     ensures priorities { IsTrue result → (t : TaskId) → IsGraphPriority core.now.state t (effective_of (task_part core.now.state t)) }
     ensures cycles { IsTrue result → (cycle : List (ℕ × ℕ)) → IsCycle core.now.state cycle → ⊥ }
 {
-    // That the state is lawful is a clause of this call.
-    let few = core.tasks() as usize <= MAX_TASKS;
-    prove!(few);
     core.walks() == 0
 }

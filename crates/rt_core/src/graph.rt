@@ -1,6 +1,6 @@
 // The graph priority of a task, over all tasks from which edges lead to it. Each task is sorted once into
 // those that lead to it and those that don't, a round of edges at a time.
-ghost use Rattle.std.specs.Prelude.{◌≡◌, ◌⊎◌, ℕ, ◌<◌, ◌≤◌, ◌^◌, ◌||◌, length, true, false, None, Some, IfSome, nat_eq};
+ghost use Rattle.std.specs.Prelude.{◌≡◌, ◌⊎◌, ℕ, ◌<◌, ◌≤◌, length, true, false, None, Some, IfSome, nat_eq};
 ghost use Rattle.rt_base.specs.declared.id.TaskId.{TaskId as Task};
 ghost use Rattle.rt_model.specs.State.{task_part};
 ghost use Rattle.rt_model.specs.Graph.{leads_to, IsGraphPriority};

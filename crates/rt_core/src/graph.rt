@@ -1,6 +1,6 @@
-// The graph priority of a task, over all tasks that wait for it, and wait for those that wait for it, and
-// so on.
-ghost use Rattle.std.specs.Prelude.{◌≡◌, ◌⊎◌, ℕ, ◌<◌, ◌≤◌, ◌^◌, ◌||◌, length, true, false, None, Some, IfSome, nat_eq};
+// The graph priority of a task, over all tasks from which edges lead to it. Each task is sorted once into
+// those that lead to it and those that don't, a round of edges at a time.
+ghost use Rattle.std.specs.Prelude.{◌≡◌, ◌⊎◌, ℕ, ◌<◌, ◌≤◌, length, true, false, None, Some, IfSome, nat_eq};
 ghost use Rattle.rt_base.specs.declared.id.TaskId.{TaskId as Task};
 ghost use Rattle.rt_model.specs.State.{task_part};
 ghost use Rattle.rt_model.specs.Graph.{leads_to, IsGraphPriority};
@@ -17,7 +17,8 @@ use rt_base::{Prio, TaskId};
 impl Core {
     /// A task's graph priority, the one that priority inheritance would give it if every effective priority
     /// were right at once: the best of its own and those of all tasks that wait for it, through however many
-    /// locks. The time is about that of a look at each task.
+    /// locks, whether a cycle stands or not. The time is linear in the number of tasks, since each joins one
+    /// round.
     pub fn graph_priority(&self, t: TaskId) -> Prio
         requires { t.0 < length self.now.state.threads }
         ensures graph { IsGraphPriority self.now.state t result }
@@ -34,7 +35,7 @@ struct Known {
     far: TaskSet,
 }
 
-// The tasks of a round, and the one that it has come to, where it isn't at its end.
+// The tasks of a round, and the one that it has come to, where the last edge led to one.
 #[derive(Drop)]
 struct Round {
     tasks: TaskSet,
@@ -71,7 +72,7 @@ impl Known {
         }
     }
 
-    // Whether it is known of a task where it leads.
+    // Whether a task is known to be near, or to be far.
     fn has(&self, u: TaskId) -> bool
         requires { u.0 < MAX_TASKS }
         ensures { result ≡ in_either self.now.near self.now.far u.0 }
@@ -79,7 +80,7 @@ impl Known {
         self.near.contains(u) || self.far.contains(u)
     }
 
-    // Looks at where a task leads.
+    // Looks at where a task leads, so that it is known, and with it its round.
     fn look_at(&mut self, core: &Core, u: TaskId)
         requires task { u.0 < length core.now.state.threads }
         requires lawful { IsLawful core.now.state core.now.made }

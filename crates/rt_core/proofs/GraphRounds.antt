@@ -7,7 +7,7 @@ use Rattle.rt_model.specs.State.{State, task_part}
 use Rattle.rt_model.specs.Graph.{leads_to, IsGraphPriority}
 use Rattle.rt_model.specs.Rounds.{AreKnown, IsRound}
 use Rattle.rt_model.specs.laws.Lawful.{IsLawful}
-use Rattle.rt_model.proofs.Numbers.{same_number, same_task, number_itself}
+use Rattle.rt_model.proofs.Numbers.{same_number, number_itself}
 use Rattle.rt_model.proofs.graph.Reaching.{owners-there}
 use Rattle.rt_model.proofs.graph.Rounds.{round-none, round-more, known-near, known-far, known-priority}
 use Rattle.rt_core.specs.TaskSet.{has}
@@ -81,24 +81,9 @@ module _ (s : State) (made : ℕ) (near far : ℕ) (u : TaskId) (lawful : IsLawf
       far-end None end away = tt
       far-end (Some w) end away = subst (λ (b : Bool). ((b || has far w.0) || has round w.0) ≡ true) away end
 
--- at the begin, a task alone is known
-pub first-known : (s : State) (t : TaskId) (near far : ℕ) → length s.tasks ≤ 64 → t.0 < length s.tasks → ((u : ℕ) → u < 64 → has near u ≡ nat_eq t.0 u) → ((u : ℕ) → has far u ≡ false) → AreKnown s t (set_of near) (set_of far)
-first-known s t near far few lt itself none = record {
-  itself = itself t.0 (omega arith) ∙ number_itself t.0;
-  lead = λ u within is. inl (sym (same_task t u (sym (itself u.0 (omega arith)) ∙ is)));
-  other = none t.0;
-  stay = λ u v within is leads. let no = none u.0 in absurd (nobody (has far u.0) no is);
-}
-  where
-    nobody : (b : Bool) → b ≡ false → b ≡ true → ⊥
-    nobody b out in_it = cc
-
 -- ---- the least own priority
 
 module _ (s : State) (near : ℕ) where
-  pub least-none : (t : TaskId) (prio : ℕ) → t.0 < length s.tasks → has near t.0 ≡ true → prio ≡ (task_part s t).own → IsLeastOwn s near 0 prio
-  least-none t prio there is at = record { below = λ u lt. absurd (omega arith); one = (t, there, is, at) }
-
   pub least-more : (i best better : ℕ) → i < length s.tasks → IsLeastOwn s near i best → better ≤ best → (has near i ≡ true → better ≤ (task_part s (record { 0 = i })).own)
       → (better ≡ best) ⊎ ((has near i ≡ true) × (better ≡ (task_part s (record { 0 = i })).own)) → IsLeastOwn s near (i + 1) better
   least-more i best better there was le own one = record {

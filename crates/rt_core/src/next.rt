@@ -5,7 +5,7 @@ ghost use Rattle.rt_model.specs.Choice.{called_lock};
 ghost use Rattle.rt_model.specs.Stage.{IsServed};
 ghost use Rattle.rt_model.specs.events.Own.{own_answer};
 ghost use Rattle.rt_model.specs.NextEvent.{first_event, answered_or, later_event, next_of};
-ghost use Rattle.rt_model.specs.laws.Keys.{IsToConfirm};
+ghost use Rattle.rt_model.specs.laws.Keys.{IsConfirming};
 ghost use Rattle.rt_core.specs.Walking.{FindsCursor};
 
 mod acquire;
@@ -43,7 +43,7 @@ pub fn next_of(shared: &Shared, t: TaskId, thread: &Thread) -> Option<Chosen>
     requires kinds { length thread.now.kinds ≡ length shared.now.locks }
     requires served { IfSome (call_of thread.now) (IsServed (length shared.now.tasks) (length shared.now.locks)) }
     requires cursor { FindsCursor shared.now thread.now.phase }
-    requires other { IsToConfirm thread.now.phase → ⊥ }
+    requires other { IsConfirming thread.now.phase → ⊥ }
     ensures { result ≡ next_of shared.now t thread.now }
 {
     let call = thread.call()?;
@@ -100,7 +100,7 @@ fn later_event(
     requires call { call_of thread.now ≡ Some call.now }
     requires known { IsServed MAX_TASKS (length thread.now.kinds) call.now }
     requires cursor { FindsCursor shared.now phase.now }
-    requires other { IsToConfirm phase.now → ⊥ }
+    requires other { IsConfirming phase.now → ⊥ }
     ensures { result ≡ later_event phase.now shared.now t thread.now (called_lock thread.now.cpu call.now) }
 {
     match (phase, thread.called_lock(call)) {

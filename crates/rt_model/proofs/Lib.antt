@@ -28,6 +28,7 @@ pub mod Named
 pub mod Links
 pub mod Leaves
 pub mod Routes
+pub mod Sorts
 pub mod Paths
 pub mod Owned
 -- the blocking graph, and who is responsible for its cycles

@@ -1,8 +1,8 @@
 -- What a next event names is there.
-use Rattle.std.proofs.Common.{ℕ, ◌<◌, Bool, true, false, cond, not, ◌&&◌, List, length, sym, ap, ◌∙◌, subst, Option, Some, None, IfSome, All, is_none}
+use Rattle.std.proofs.Common.{ℕ, ◌<◌, [], Bool, true, false, cond, not, ◌&&◌, List, length, sym, ap, ◌∙◌, subst, Option, Some, None, IfSome, All, is_none}
 use Rattle.std.specs.Prelude.{nat_eq, option_map}
 use Rattle.std.proofs.lemmas.Bool.{cond_both}
-use Rattle.std.proofs.lemmas.List.Elements.{All-filter}
+use Rattle.std.proofs.lemmas.List.Elements.{All-nil, All-filter}
 use Rattle.rt_base.specs.declared.call.Call.{Call}
 use Rattle.rt_base.specs.declared.call.Call.TheVariants as calls
 use Rattle.rt_base.specs.declared.id.Cpu.{Cpu}
@@ -81,32 +81,39 @@ module _ (s : State) (made : ℕ) (t : TaskId) (e : Event) (lawful : IsLawful s 
   abbrev Within : Event → Type 0
   Within x = IsWithin (length s.threads) (length s.locks) x
 
+  abbrev IsThere : ℕ × ℕ → Type 0
+  IsThere pair = (pair.0 < length s.threads) × (pair.1 < length s.locks)
+
+  -- most events have no path
+  none : All IsThere []
+  none = All-nil IsThere
+
   of_own : (call : Call) (answer : Reply) → IsOwn s t call answer e → Within e
   of_own call answer is =
       let lock = called_within (length s.threads) (length s.locks) (thread_part s t).cpu call is.at.served in
-      subst Within (sym is.event) (record { task = is.at.task; lock = lock; other = tt; owner = tt; woken = tt; boost = tt })
+      subst Within (sym is.event) (record { task = is.at.task; lock = lock; other = tt; owner = tt; woken = tt; boost = tt; path = none })
 
   of_acquire : (l : LockId) → IsAcquire s t l e → Within e
-  of_acquire l (is_fast is) = subst Within (sym is.event) (record { task = is.task; lock = is.lock; other = tt; owner = tt; woken = tt; boost = tt })
-  of_acquire l (is_mark is) = subst Within (sym is.event) (record { task = is.at.at.task; lock = asks-lock s t phases.Start l is.at; other = tt; owner = tt; woken = tt; boost = tt })
-  of_acquire l (is_take is) = subst Within (sym is.event) (record { task = is.task; lock = is.lock; other = tt; owner = tt; woken = tt; boost = boost_within (length s.threads) t _ _ is.task })
-  of_acquire l (is_busy is) = subst Within (sym is.event) (record { task = is.at.task; lock = is.at.served; other = tt; owner = owner_within s l lawful.shape is.at.served; woken = tt; boost = tt })
+  of_acquire l (is_fast is) = subst Within (sym is.event) (record { task = is.task; lock = is.lock; other = tt; owner = tt; woken = tt; boost = tt; path = none })
+  of_acquire l (is_mark is) = subst Within (sym is.event) (record { task = is.at.at.task; lock = asks-lock s t phases.Start l is.at; other = tt; owner = tt; woken = tt; boost = tt; path = none })
+  of_acquire l (is_take is) = subst Within (sym is.event) (record { task = is.task; lock = is.lock; other = tt; owner = tt; woken = tt; boost = boost_within (length s.threads) t _ _ is.task; path = none })
+  of_acquire l (is_busy is) = subst Within (sym is.event) (record { task = is.at.task; lock = is.at.served; other = tt; owner = owner_within s l lawful.shape is.at.served; woken = tt; boost = tt; path = none })
 
   of_wait : (l : LockId) → IsWaiting s t l e → Within e
   of_wait l (is_wait is) =
       let lock = asks-lock s t phases.Slow l is.at in
       let owner = owner_within s l lawful.shape lock in
-      subst Within (sym is.event) (record { task = is.at.at.task; lock = lock; other = tt; owner = owner; woken = tt; boost = boost_at_within (length s.threads) (owner_part s l).owner _ _ owner })
-  of_wait l (is_again is) = subst Within (sym is.event) (record { task = is.at.at.task; lock = asks-lock s t phases.Wait l is.at; other = tt; owner = tt; woken = tt; boost = tt })
+      subst Within (sym is.event) (record { task = is.at.at.task; lock = lock; other = tt; owner = owner; woken = tt; boost = boost_at_within (length s.threads) (owner_part s l).owner _ _ owner; path = none })
+  of_wait l (is_again is) = subst Within (sym is.event) (record { task = is.at.at.task; lock = asks-lock s t phases.Wait l is.at; other = tt; owner = tt; woken = tt; boost = tt; path = none })
   of_wait l (is_leave is) =
       let owner = owner_within s l lawful.shape is.at.served in
-      subst Within (sym is.event) (record { task = is.at.task; lock = is.at.served; other = tt; owner = owner; woken = tt; boost = boost_at_within (length s.threads) (owner_part s l).owner _ _ owner })
+      subst Within (sym is.event) (record { task = is.at.task; lock = is.at.served; other = tt; owner = owner; woken = tt; boost = boost_at_within (length s.threads) (owner_part s l).owner _ _ owner; path = none })
 
   of_release : (l : LockId) → IsRelease s t l e → Within e
-  of_release l (is_free is) = subst Within (sym is.event) (record { task = is.at.task; lock = is.at.served; other = tt; owner = tt; woken = tt; boost = tt })
+  of_release l (is_free is) = subst Within (sym is.event) (record { task = is.at.task; lock = is.at.served; other = tt; owner = tt; woken = tt; boost = tt; path = none })
   of_release l (is_give is) =
       let woken = top_within (length s.threads) (owner_part s l).rows (rows_within s l lawful.shape is.at.served) in
-      subst Within (sym is.event) (record { task = is.at.task; lock = is.at.served; other = tt; owner = tt; woken = woken; boost = boost_within (length s.threads) t _ _ is.at.task })
+      subst Within (sym is.event) (record { task = is.at.task; lock = is.at.served; other = tt; owner = tt; woken = woken; boost = boost_within (length s.threads) t _ _ is.at.task; path = none })
 
   pub of_walk : (route : Route) (u : TaskId) → IsWalking s t route u e → Within e
   of_walk route u (is_walk l key is) =
@@ -120,8 +127,9 @@ module _ (s : State) (made : ℕ) (t : TaskId) (e : Event) (lawful : IsLawful s 
         owner = owner;
         woken = newly_top_within (length s.threads) (owner_part s l) (requeued_where_old (Some u) (task_part s u) (owner_part s l)) rows;
         boost = boost_at_within (length s.threads) (owner_part s l).owner _ _ owner;
+        path = none;
       })
-  of_walk route u (is_walkend is) = subst Within (sym is.event) (record { task = is.task; lock = tt; other = cursor-there s made t route u lawful is.how; owner = tt; woken = tt; boost = tt })
+  of_walk route u (is_walkend is) = subst Within (sym is.event) (record { task = is.task; lock = tt; other = cursor-there s made t route u lawful is.how; owner = tt; woken = tt; boost = tt; path = none })
 
   -- a path that is to be confirmed begins with the task and its lock, and another task comes next
   of_cycle : (l : LockId) (path : List (ℕ × ℕ)) → IsCycleEvent s t l path e → Within e
@@ -135,6 +143,7 @@ module _ (s : State) (made : ℕ) (t : TaskId) (e : Event) (lawful : IsLawful s 
         owner = tt;
         woken = tt;
         boost = boost_within (length s.threads) round.owner _ _ round.there;
+        path = subst (All IsThere) round.is (confirm-walk s made t path l lawful is.at).there;
       })
 
   -- the lock of a broken link is one of the path
@@ -142,13 +151,13 @@ module _ (s : State) (made : ℕ) (t : TaskId) (e : Event) (lawful : IsLawful s 
   of_restart l path link is =
       let there = All-links_of (λ n m. (n < length s.threads) × (m < length s.locks)) path (confirm-walk s made t path l lawful is.at).there in
       let link_there = broken-holds (λ (link : Link). (link.from.0 < length s.threads) × (link.lock.0 < length s.locks)) s path link there is.broken in
-      subst Within (sym is.event) (record { task = is.at.at.task; lock = link_there.1; other = link_there.0; owner = tt; woken = tt; boost = tt })
+      subst Within (sym is.event) (record { task = is.at.at.task; lock = link_there.1; other = link_there.0; owner = tt; woken = tt; boost = tt; path = (confirm-walk s made t path l lawful is.at).there })
 
   of_signal : (u : TaskId) → IsSignal s t u e → Within e
-  of_signal u is = subst Within (sym is.event) (record { task = is.at.task; lock = tt; other = is.at.served; owner = tt; woken = tt; boost = tt })
+  of_signal u is = subst Within (sym is.event) (record { task = is.at.task; lock = tt; other = is.at.served; owner = tt; woken = tt; boost = tt; path = none })
 
   of_setprio : (u : TaskId) (prio : ℕ) → IsSetPrio s t u prio e → Within e
-  of_setprio u prio is = subst Within (sym is.event) (record { task = is.at.task; lock = tt; other = is.at.served.0; owner = tt; woken = tt; boost = boost_within (length s.threads) u _ _ is.at.served.0 })
+  of_setprio u prio is = subst Within (sym is.event) (record { task = is.at.task; lock = tt; other = is.at.served.0; owner = tt; woken = tt; boost = boost_within (length s.threads) u _ _ is.at.served.0; path = none })
 
 -- what a next event names is there
 pub within : (s : State) (made : ℕ) (t : TaskId) (e : Event) → IsLawful s made → IsNext s t e → IsWithin (length s.threads) (length s.locks) e

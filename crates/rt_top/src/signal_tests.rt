@@ -45,7 +45,7 @@ fn rows_of_signals(rt: HostRuntime) -> Result<(), Fail> {
 #[test]
 fn when_a_signal_comes(rt: HostRuntime) -> Result<(), Fail> {
     let alloc = rt.alloc();
-    let rows: [(&[u8], &[u8], u8); 8] = [
+    let rows: [(&[u8], &[u8], u8); 9] = [
         // before the call: the task is queued, and leaves at once
         (
             b"rtscript 1\ntask a 50 0\ntask c 20 0\ntask d 60 0\nlock m mutex\n\
@@ -85,6 +85,28 @@ fn when_a_signal_comes(rt: HostRuntime) -> Result<(), Fail> {
               task a 50 50 R R 2/2 end\n\
               task c 20 20 R R 1/1 end\n\
               task d 60 60 R R 1/1 end\n\
+              lock m - 0\n",
+            0,
+        ),
+        // before the call, and again in the wait, which ends a sleep though the first is still pending
+        (
+            b"rtscript 1\ntask a 50 0\ntask c 20 0\ntask d 60 0\nlock m mutex\n\
+              call a lock m\ncall a unlock m\n\
+              call c lockint m\n\
+              call d signal c\ncall d signal c\n\
+              pick a\npick d\npick c\npick c\npick d\npick c\ngo\n",
+            b"rtjournal 1\n\
+              1 a fast m -> got\n\
+              2 d signal c -> missed\n\
+              3 c mark m\n\
+              4 c wait m a=20\n\
+              5 d signal c -> woke\n\
+              6 c leave m a=50 -> interrupted\n\
+              7 a free m -> done\n\
+              end done\n\
+              task a 50 50 R R 2/2 end\n\
+              task c 20 20 R R 1/1 end\n\
+              task d 60 60 R R 2/2 end\n\
               lock m - 0\n",
             0,
         ),

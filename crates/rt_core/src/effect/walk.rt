@@ -73,8 +73,9 @@ pub fn cycle(shared: &mut Shared, thread: &mut Thread, e: &Event, l: LockId)
     leave_row(shared, thread, e.task, l, owner, Reply::Deadlock);
 }
 
-/// The phase in which a call stands that is over but for the priorities along a chain, `rt_mutex_adjust_pi`:
-/// where the task from which the chain goes on is queued with an old key, a short walk begins there.
+/// The phase in which a call stands that is over but for the priorities along a chain, as at the end of
+/// `remove_waiter` and in `rt_mutex_adjust_pi`: where the task from which the chain goes on is queued with an
+/// old key, a short walk begins there.
 pub fn first_phase(shared: &Shared, task: Option<TaskId>, answer: Reply) -> Phase
     requires { IfSome task (λ t. t.0 < length shared.now.tasks) }
     ensures { (walker : TaskId) → result ≡ phase_of_walk (Short answer) (goes_on walker (Short answer) task (task_at shared.now task)) }

@@ -12,6 +12,7 @@ use Rattle.rt_model.specs.declared.phase.Route.TheVariants.{Full}
 use Rattle.rt_model.specs.Parts.{TaskPart}
 use Rattle.rt_model.specs.State.{State, shared, task_at, owner_part, task_part, thread_part}
 use Rattle.rt_model.specs.Path.{Link, first_task, links_to, links_of, first_broken, Edge, IsCycle}
+use Rattle.rt_model.specs.laws.Cycles.{IsPast}
 use Rattle.rt_model.specs.laws.KeptTops.{KeptTopsLaw}
 use Rattle.rt_model.specs.laws.Responsible.{IsPartOf, IsAlong, IsResponsible}
 use Rattle.rt_model.specs.laws.Rows.{key_at, RowsLaw}
@@ -73,20 +74,24 @@ cycle-blocked s path stands =
     (All-weaker (Edge s) (λ (link : Link). is_none (task_part s link.from).blocked ≡ false) (λ link edge. some_lock (task_part s link.from).blocked link.lock edge.blocked) (links_of path) stands.edges)
 
 -- a walk that has made it follows a longer part, or has come round
-goes-along : (s : State) (first : ℕ × ℕ) (path : List (ℕ × ℕ)) (pair : ℕ × ℕ) (rest : List (ℕ × ℕ)) (task : TaskPart)
+goes-past : (s : State) (first : ℕ × ℕ) (path : List (ℕ × ℕ)) (pair : ℕ × ℕ) (rest : List (ℕ × ℕ)) (task : TaskPart)
     → IsCycle s ((first ∷ path) ++ pair ∷ rest) → is_none task.blocked ≡ false
-    → IsAlong ((first ∷ path) ++ pair ∷ rest) (phase_of_walk (Full (first ∷ path)) (full_at (task_of_pair first) ((first ∷ path) ++ pair ∷ []) (first_task (task_of_pair first) rest) task))
-goes-along s first path pair [] task stands blocked =
-    subst (λ (p : Option Phase). IsAlong ((first ∷ path) ++ pair ∷ []) (phase_of_walk (Full (first ∷ path)) p))
-    (sym (comes-back (task_of_pair first) (task_of_pair first) ((first ∷ path) ++ pair ∷ []) task blocked (number_itself first.0))) refl
-goes-along s first path pair (next ∷ rest) task stands blocked =
+    → IsPast (first ∷ path) pair rest (phase_of_walk (Full (first ∷ path)) (full_at (task_of_pair first) ((first ∷ path) ++ pair ∷ []) (first_task (task_of_pair first) rest) task))
+goes-past s first path pair [] task stands blocked =
+    ap (phase_of_walk (Full (first ∷ path))) (comes-back (task_of_pair first) (task_of_pair first) ((first ∷ path) ++ pair ∷ []) task blocked (number_itself first.0))
+goes-past s first path pair (next ∷ rest) task stands blocked =
     let whole : ((first ∷ path) ++ pair ∷ []) ++ next ∷ rest ≡ (first ∷ path) ++ pair ∷ next ∷ rest = append_assoc (first ∷ path) (pair ∷ []) (next ∷ rest) in
     let ahead : All (λ (other : ℕ × ℕ). other.0 ≢ next.0) ((first ∷ path) ++ pair ∷ []) =
     pairs-before Differ ((first ∷ path) ++ pair ∷ []) next rest (subst (AllPairs Differ) (sym whole) stands.differ) in
     let apart : nat_eq next.0 first.0 ≡ false = other-test next.0 first.0 (λ same. All-head (λ (other : ℕ × ℕ). other.0 ≢ next.0) first (path ++ pair ∷ []) ahead (sym same)) in
-    subst (λ (p : Option Phase). IsAlong ((first ∷ path) ++ pair ∷ next ∷ rest) (phase_of_walk (Full (first ∷ path)) p))
-    (sym (goes-further (task_of_pair first) (task_of_pair next) ((first ∷ path) ++ pair ∷ []) task blocked apart ahead))
-    (record { some = λ none. cc; next = next; rest = rest; along = sym whole; stands = refl })
+    ap (phase_of_walk (Full (first ∷ path))) (goes-further (task_of_pair first) (task_of_pair next) ((first ∷ path) ++ pair ∷ []) task blocked apart ahead)
+
+-- so it goes along the cycle still
+past-along : (first : ℕ × ℕ) (path : List (ℕ × ℕ)) (pair : ℕ × ℕ) (rest : List (ℕ × ℕ)) (phase : Phase) → IsPast (first ∷ path) pair rest phase → IsAlong ((first ∷ path) ++ pair ∷ rest) phase
+past-along first path pair [] phase is = subst (IsAlong ((first ∷ path) ++ pair ∷ [])) (sym is) refl
+past-along first path pair (next ∷ rest) phase is =
+    subst (IsAlong ((first ∷ path) ++ pair ∷ next ∷ rest)) (sym is)
+    (record { some = λ none. cc; next = next; rest = rest; along = sym (append_assoc (first ∷ path) (pair ∷ []) (next ∷ rest)); stands = refl })
 
 none-alike : (a b : Option (LockId × ℕ)) → option_map (λ (at : LockId × ℕ). at.0) a ≡ option_map (λ (at : LockId × ℕ). at.0) b → is_none a ≡ is_none b
 none-alike None None same = refl
@@ -95,16 +100,16 @@ none-alike (Some a) None same = absurd cc
 none-alike (Some a) (Some b) same = refl
 
 -- so the walk of the cycle's first task, at the task of this pair and through its lock
-link-along : (s : State) (first : ℕ × ℕ) (path : List (ℕ × ℕ)) (pair : ℕ × ℕ) (rest : List (ℕ × ℕ)) (w u : TaskId) (l : LockId) (task : TaskPart) → IsCycle s ((first ∷ path) ++ pair ∷ rest)
+link-past : (s : State) (first : ℕ × ℕ) (path : List (ℕ × ℕ)) (pair : ℕ × ℕ) (rest : List (ℕ × ℕ)) (w u : TaskId) (l : LockId) (task : TaskPart) → IsCycle s ((first ∷ path) ++ pair ∷ rest)
     → task_of_pair first ≡ w → task_of_pair pair ≡ u → record { 0 = pair.1 } ≡ l → blocked_lock task ≡ blocked_lock (task_at (shared s) (owner_part s l).owner)
-    → IsAlong ((first ∷ path) ++ pair ∷ rest) (phase_of_walk (Full (first ∷ path)) (goes_on w (Full ((first ∷ path) ++ (u.0, l.0) ∷ [])) (owner_part s l).owner task))
-link-along s first path pair rest w u l task stands begun cursor at =
+    → IsPast (first ∷ path) pair rest (phase_of_walk (Full (first ∷ path)) (goes_on w (Full ((first ∷ path) ++ (u.0, l.0) ∷ [])) (owner_part s l).owner task))
+link-past s first path pair rest w u l task stands begun cursor at =
     subst (λ (t : TaskId). Along t u l) begun (subst (λ (v : TaskId). Along (task_of_pair first) v l) cursor (subst (λ (m : LockId). Along (task_of_pair first) (task_of_pair pair) m) at here))
   where
     Along : TaskId → TaskId → LockId → Type 0
     Along t v m =
         blocked_lock task ≡ blocked_lock (task_at (shared s) (owner_part s m).owner)
-        → IsAlong ((first ∷ path) ++ pair ∷ rest) (phase_of_walk (Full (first ∷ path)) (goes_on t (Full ((first ∷ path) ++ (v.0, m.0) ∷ [])) (owner_part s m).owner task))
+        → IsPast (first ∷ path) pair rest (phase_of_walk (Full (first ∷ path)) (goes_on t (Full ((first ∷ path) ++ (v.0, m.0) ∷ [])) (owner_part s m).owner task))
 
     here : Along (task_of_pair first) (task_of_pair pair) (record { 0 = pair.1 })
     here owner =
@@ -112,8 +117,8 @@ link-along s first path pair rest w u l task stands begun cursor at =
         let owned : (owner_part s (record { 0 = pair.1 })).owner ≡ Some o = (link-after (Edge s) first path pair rest stands.edges).owned in
         let same : blocked_lock task ≡ blocked_lock (task_part s o) = owner ∙ ap (λ (p : Option TaskId). blocked_lock (task_at (shared s) p)) owned in
         let waits = link-after (λ (link : Link). is_none (task_part s link.to).blocked ≡ false) first path pair rest (cycle-blocked s ((first ∷ path) ++ pair ∷ rest) stands) in
-        subst (λ (p : Option TaskId). IsAlong ((first ∷ path) ++ pair ∷ rest) (phase_of_walk (Full (first ∷ path)) (goes_on (task_of_pair first) (Full ((first ∷ path) ++ pair ∷ [])) p task))) (sym owned)
-        (goes-along s first path pair rest task stands (none-alike task.blocked (task_part s o).blocked same ∙ waits))
+        subst (λ (p : Option TaskId). IsPast (first ∷ path) pair rest (phase_of_walk (Full (first ∷ path)) (goes_on (task_of_pair first) (Full ((first ∷ path) ++ pair ∷ [])) p task))) (sym owned)
+        (goes-past s first path pair rest task stands (none-alike task.blocked (task_part s o).blocked same ∙ waits))
 
 -- ---- the responsible task
 
@@ -162,19 +167,28 @@ module _ (s : State) (cycle : List (ℕ × ℕ)) (w : TaskId) (stands : IsCycle 
               owned = edge.owned;
             }
 
-    -- and the link from there leaves the task responsible
-    pub walk-along : (next : State) (l : LockId) (task : TaskPart) → blocked_lock (task_part s u) ≡ Some l → blocked_lock task ≡ blocked_lock (task_at (shared s) (owner_part s l).owner)
-        → (thread_part next w).phase ≡ phase_of_walk (Full path) (goes_on w (Full (path ++ (u.0, l.0) ∷ [])) (owner_part s l).owner task) → IsResponsible next cycle
-    walk-along next l task at owner now =
-        along-responsible next cycle w first (cycle-some s cycle stands) (subst (IsAlong cycle) (sym now) (by_path path walk-at is_part.some))
+    -- the link from there leads to the next pair, or round
+    pub walk-past : (next : State) (l : LockId) (task : TaskPart) → blocked_lock (task_part s u) ≡ Some l → blocked_lock task ≡ blocked_lock (task_at (shared s) (owner_part s l).owner)
+        → (thread_part next w).phase ≡ phase_of_walk (Full path) (goes_on w (Full (path ++ (u.0, l.0) ∷ [])) (owner_part s l).owner task) → IsPast path walk-at.pair walk-at.back (thread_part next w).phase
+    walk-past next l task at owner now = subst (IsPast path walk-at.pair walk-at.back) (sym now) (by_path path walk-at is_part.some)
       where
-        by_path : (p : List (ℕ × ℕ)) → IsAtPair s cycle p u → p ≢ [] → IsAlong cycle (phase_of_walk (Full p) (goes_on w (Full (p ++ (u.0, l.0) ∷ [])) (owner_part s l).owner task))
+        by_path : (p : List (ℕ × ℕ)) (part : IsAtPair s cycle p u) → p ≢ [] → IsPast p part.pair part.back (phase_of_walk (Full p) (goes_on w (Full (p ++ (u.0, l.0) ∷ [])) (owner_part s l).owner task))
         by_path [] part some = absurd (some refl)
         by_path (pair ∷ p) part some =
             let same : record { 0 = part.pair.1 } ≡ l = (let there = part.blocked in cc) in
             let begun : task_of_pair pair ≡ w = ap (λ (c : List (ℕ × ℕ)). first_task w c) (sym part.along) ∙ first in
-            subst (λ (c : List (ℕ × ℕ)). IsAlong c (phase_of_walk (Full (pair ∷ p)) (goes_on w (Full ((pair ∷ p) ++ (u.0, l.0) ∷ [])) (owner_part s l).owner task))) (sym part.along)
-            (link-along s pair p part.pair part.back w u l task (subst (IsCycle s) part.along stands) begun (sym part.cursor) same owner)
+            link-past s pair p part.pair part.back w u l task (subst (IsCycle s) part.along stands) begun (sym part.cursor) same owner
+
+    -- and so leaves the task responsible
+    pub walk-along : (next : State) (l : LockId) (task : TaskPart) → blocked_lock (task_part s u) ≡ Some l → blocked_lock task ≡ blocked_lock (task_at (shared s) (owner_part s l).owner)
+        → (thread_part next w).phase ≡ phase_of_walk (Full path) (goes_on w (Full (path ++ (u.0, l.0) ∷ [])) (owner_part s l).owner task) → IsResponsible next cycle
+    walk-along next l task at owner now =
+        along-responsible next cycle w first (cycle-some s cycle stands)
+        (subst (λ (c : List (ℕ × ℕ)). IsAlong c (thread_part next w).phase) (sym walk-at.along) (by_path path walk-at is_part.some (walk-past next l task at owner now)))
+      where
+        by_path : (p : List (ℕ × ℕ)) (part : IsAtPair s cycle p u) → p ≢ [] → IsPast p part.pair part.back (thread_part next w).phase → IsAlong (p ++ part.pair ∷ part.back) (thread_part next w).phase
+        by_path [] part some past = absurd (some refl)
+        by_path (pair ∷ p) part some past = past-along pair p part.pair part.back (thread_part next w).phase past
 
   -- one that is to be confirmed has the whole cycle, of which each link stands
   pub confirm-whole : (path : List (ℕ × ℕ)) → (thread_part s w).phase ≡ Confirm path → path ≡ cycle

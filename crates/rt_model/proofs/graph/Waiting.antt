@@ -15,7 +15,7 @@ use Rattle.rt_model.specs.Rows.{is_of, row_of, queued_key, task_of}
 use Rattle.rt_model.specs.State.{State, free_lock, no_task, owner_part, task_part, thread_part}
 use Rattle.rt_model.specs.Order.{in_walk}
 use Rattle.rt_model.specs.Graph.{Leads}
-use Rattle.rt_model.specs.laws.Keys.{StandsAt, IsToConfirm, IsNamed}
+use Rattle.rt_model.specs.laws.Keys.{StandsAt, IsConfirming, IsNamed}
 use Rattle.rt_model.specs.laws.Lawful.{IsLawful}
 use Rattle.rt_model.specs.laws.Owners.{owned_by}
 use Rattle.rt_model.specs.laws.Priorities.{waiting_keys}
@@ -115,7 +115,7 @@ unnamed s t rest (inl at) = by_phase (thread_part s at.0).phase (rest at.0) at.1
     by_phase _ none stands = stands
 unnamed s t rest (inr confirms) = by_phase (thread_part s t).phase (rest t) confirms
   where
-    by_phase : (phase : Phase) → in_walk phase ≡ false → IsToConfirm phase → ⊥
+    by_phase : (phase : Phase) → in_walk phase ≡ false → IsConfirming phase → ⊥
     by_phase (phases.Confirm path) none is = absurd cc
     by_phase _ none is = is
 

@@ -38,7 +38,8 @@ use Rattle.rt_model.specs.laws.Causes.{IsCause}
 use Rattle.rt_model.specs.laws.Lawful.{IsLawful}
 use Rattle.rt_model.specs.laws.Rows.{key_at}
 use Rattle.rt_model.proofs.Numbers.{other_number, at_each_task}
-use Rattle.rt_model.proofs.Leaves.{IsLeft, leave-left, cycle-left, left-own_blocked}
+use Rattle.rt_model.proofs.Leaves.{IsLeft, leave-left, cycle-left, left-locks, left-own_blocked}
+use Rattle.rt_model.proofs.Queues.{row_of-without_other}
 use Rattle.rt_model.proofs.Routes.{full-holds, short-holds}
 use Rattle.rt_model.proofs.NextEvents.{IsNext, by_own, by_acquire, by_wait, by_release, by_walk, by_confirm, by_signal, by_setprio}
 use Rattle.rt_model.proofs.Lawful.{IsLawful-next}
@@ -92,6 +93,16 @@ ends-out s made t e answer lawful next ended l =
     let left = ends-left s made t e answer lawful ended in
     let rows = (IsLawful-next s made t e lawful next).rows.rows l t in
     no_row (row_of t (owner_part (state_after s e) l).rows) (rows ∙ ap (λ (b : Option (LockId × ℕ)). key_at b l) (left-own_blocked s made t left.0 e lawful left.1))
+
+-- its task is blocked on no lock, and every other task has the row that it had
+pub ends-unblocked : (s : State) (made : ℕ) (t : TaskId) (e : Event) (answer : Reply) → IsLawful s made → EndsWait s t e answer → (task_part (state_after s e) t).blocked ≡ None
+ends-unblocked s made t e answer lawful ended = let left = ends-left s made t e answer lawful ended in left-own_blocked s made t left.0 e lawful left.1
+
+pub ends-others : (s : State) (made : ℕ) (t : TaskId) (e : Event) (answer : Reply) → IsLawful s made → EndsWait s t e answer
+    → (l : LockId) (u : TaskId) → nat_eq t.0 u.0 ≡ false → row_of u (owner_part (state_after s e) l).rows ≡ row_of u (owner_part s l).rows
+ends-others s made t e answer lawful ended l u ne =
+    let left = ends-left s made t e answer lawful ended in
+    left-locks s made t left.0 e lawful left.1 (λ m lock. row_of u lock.rows ≡ row_of u (owner_part s m).rows) l (row_of-without_other t u (owner_part s left.0).rows ne) (λ there. refl)
 
 -- a short walk goes on before its answer
 short-answer : (t : TaskId) (a b : Reply) (owner : Option TaskId) (task : TaskPart) (u : TaskId) → phase_of_walk (Short a) (goes_on t (Short a) owner task) ≡ phases.Walk u (Short b) → a ≡ b

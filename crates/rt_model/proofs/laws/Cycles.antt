@@ -1,9 +1,9 @@
 -- A run passes over no cycle.
-use Rattle.std.proofs.Common.{◌≡◌, ◌≢◌, ◌⊎◌, inl, inr, ℕ, ◌+◌, Bool, true, false, List, ◌∷◌, length, refl, sym, ap, ◌∙◌, subst, Some, None}
+use Rattle.std.proofs.Common.{◌≡◌, ◌≢◌, ◌⊎◌, inl, inr, ℕ, ◌+◌, List, ◌∷◌, length, refl, sym, ap, ◌∙◌, subst, Some, None}
 use Rattle.rt_base.specs.declared.id.LockId.{LockId}
 use Rattle.rt_base.specs.declared.id.TaskId.{TaskId}
+use Rattle.rt_base.specs.declared.reply.Reply.TheVariants.{Deadlock}
 use Rattle.rt_model.specs.declared.event.Event.{Event}
-use Rattle.rt_model.specs.declared.event_kind.EventKind.{EventKind}
 use Rattle.rt_model.specs.declared.event_kind.EventKind.TheVariants as kinds
 use Rattle.rt_model.specs.declared.phase.Phase.{Phase}
 use Rattle.rt_model.specs.declared.phase.Phase.TheVariants as phases
@@ -16,18 +16,19 @@ use Rattle.rt_model.specs.Run.{after, IsRun}
 use Rattle.rt_model.specs.Path.{first_task, links_of, IsCycle}
 use Rattle.rt_model.specs.laws.Lawful.{IsLawful}
 use Rattle.rt_model.specs.laws.Responsible.{IsAlong, IsResponsible}
-use Rattle.rt_model.specs.laws.Cycles.{IsWalkAlong, TellsCycle, NamesBroken, CyclesLaw}
-use Rattle.rt_model.proofs.NextEvents.{IsNext, by_own, by_acquire, by_wait, by_release, by_walk, by_confirm, by_signal, by_setprio}
+use Rattle.rt_model.specs.laws.Cycles.{IsPast, IsWalkAlong, TellsCycle, BreaksCycle, NamesBroken, CyclesLaw}
+use Rattle.rt_model.proofs.NextEvents.{IsNext, by_own, by_acquire, by_wait, by_release, by_walk, by_confirm, by_signal, by_setprio, task-IsNext}
+use Rattle.rt_model.proofs.Sorts.{Sort, unsorted, begins, breaks, heeds, is_sorted, sort}
 use Rattle.rt_model.proofs.PartsAfter.{thread-other}
 use Rattle.rt_model.proofs.Waiters.{blocking}
 use Rattle.rt_model.proofs.events.Acquire.{AcquiresIn, by_lock, by_trylock, TakesIn, from_slow, from_wait, from_trylock, is_fast, is_mark, is_take, is_busy}
 use Rattle.rt_model.proofs.events.Release.{is_free, is_give}
 use Rattle.rt_model.proofs.events.Wait.{is_wait, is_again, is_leave}
 use Rattle.rt_model.proofs.events.Walk.{WalksIn, by_full, by_short, IsWalk, is_walk, IsWalkEnd, is_walkend, is_restart, is_cycle}
-use Rattle.rt_model.proofs.graph.Standing.{blocked_lock, broken-named}
-use Rattle.rt_model.proofs.graph.Along.{phase-along, walk-at, walk-along, confirm-whole, confirm-unbroken}
+use Rattle.rt_model.proofs.graph.Standing.{blocked_lock, broken-named, confirm-cycle, confirm-begins}
+use Rattle.rt_model.proofs.graph.Along.{phase-along, walk-at, walk-past, walk-along, confirm-whole, confirm-unbroken}
 use Rattle.rt_model.proofs.graph.Kept.{responsible-other}
-use Rattle.rt_model.proofs.laws.Holders.{other_kind}
+use Rattle.rt_model.proofs.laws.Causes.{ended_cycle, ends-out, ends-unblocked, ends-others}
 use Rattle.rt_model.proofs.laws.Responsible.{full-link}
 use Rattle.rt_model.proofs.Prefixes.{lawful-there, next-there}
 
@@ -57,9 +58,12 @@ module _ (s : State) (made : ℕ) (t : TaskId) (e : Event) (cycle : List (ℕ ×
             pair = at.pair;
             back = at.back;
             along = at.along;
+            stood = ap (λ (v : TaskId). (thread_part s v).phase) (task-IsNext s t e next) ∙ (phase ∙ ap (λ (v : TaskId). phases.Walk v (Full path)) at.cursor);
             kind = ap (λ (x : Event). x.kind) is.event;
             cursor = ap (λ (x : Event). x.other) is.event ∙ ap Some at.cursor;
             lock = ap (λ (x : Event). x.lock) is.event ∙ (sym there ∙ at.blocked);
+            past = subst (λ (v : TaskId). IsPast path at.pair at.back (thread_part (state_after s e) v).phase) (sym (task-IsNext s t e next))
+                (walk-past s cycle t stands responsible first u path phase (state_after s e) l onward.0 there onward.1 onward.2);
             still = walk-along s cycle t stands responsible first u path phase (state_after s e) l onward.0 there onward.1 onward.2;
           })
 
@@ -111,44 +115,50 @@ stays-responsible : (s : State) (e : Event) (cycle : List (ℕ × ℕ)) → IsRe
 stays-responsible s e cycle responsible other =
     responsible-other s (state_after s e) e.task (λ u ne. ap (λ (th : ThreadPart). th.phase) (thread-other s e u ne)) cycle (λ first was. absurd (other first)) responsible
 
--- ---- a walk that begins anew
+-- ---- a walk that has come round
 
-abbrev restarts : EventKind → Bool
-restarts kinds.Restart = true
-restarts _ = false
+module _ (s : State) (made : ℕ) (e : Event) (lawful : IsLawful s made) (next : IsNext s e.task e) where
+  -- it begins anew
+  pub names-broken : e.kind ≡ kinds.Restart → NamesBroken s e
+  names-broken kind = by_sort (sort s e.task e next)
+    where
+      by_sort : Sort s e.task e → NamesBroken s e
+      by_sort (unsorted isnt) = let is = ap is_sorted kind in absurd (cc)
+      by_sort (breaks l path is) = let its = ap (λ (x : Event). x.kind) is.event in absurd (cc)
+      by_sort (heeds l is) = let its = ap (λ (x : Event). x.kind) is.event in absurd (cc)
+      by_sort (begins l path link is) =
+          let first = broken-named s made lawful.kept lawful.rows path link is.broken in
+          record {
+            whole = is.at.at.phased ∙ ap phases.Confirm (sym (ap (λ (x : Event). x.path) is.event));
+            front = first.front;
+            link = link;
+            back = first.back;
+            along = ap (λ (x : Event). links_of x.path) is.event ∙ first.along;
+            stand = first.stand;
+            broken = first.broken;
+            task = ap (λ (x : Event). x.other) is.event;
+            lock = ap (λ (x : Event). x.lock) is.event;
+          }
 
-module _ (s : State) (made : ℕ) (t : TaskId) (e : Event) (lawful : IsLawful s made) (is_restarted : restarts e.kind ≡ true) where
-  other : (x : Event) → e ≡ x → restarts x.kind ≡ false → NamesBroken s e
-  other x is not = absurd (other_kind restarts e x is not is_restarted)
-
-  pub names-broken : IsNext s t e → NamesBroken s e
-  names-broken (by_own call answer is) = other _ is.event refl
-  names-broken (by_acquire l (is_fast is)) = other _ is.event refl
-  names-broken (by_acquire l (is_mark is)) = other _ is.event refl
-  names-broken (by_acquire l (is_take is)) = other _ is.event refl
-  names-broken (by_acquire l (is_busy is)) = other _ is.event refl
-  names-broken (by_wait l (is_wait is)) = other _ is.event refl
-  names-broken (by_wait l (is_again is)) = other _ is.event refl
-  names-broken (by_wait l (is_leave is)) = other _ is.event refl
-  names-broken (by_release l (is_free is)) = other _ is.event refl
-  names-broken (by_release l (is_give is)) = other _ is.event refl
-  names-broken (by_walk route u (is_walk l key is)) = other _ is.event refl
-  names-broken (by_walk route u (is_walkend is)) = other _ is.event refl
-  names-broken (by_confirm l path (is_cycle is)) = other _ is.event refl
-  names-broken (by_signal u is) = other _ is.event refl
-  names-broken (by_setprio u prio is) = other _ is.event refl
-  names-broken (by_confirm l path (is_restart link is)) =
-      let first = broken-named s made lawful.kept lawful.rows path link is.broken in
-      record {
-        front = first.front;
-        link = link;
-        back = first.back;
-        along = ap (λ (x : Event). links_of x.path) is.event ∙ first.along;
-        stand = first.stand;
-        broken = first.broken;
-        task = ap (λ (x : Event). x.other) is.event;
-        lock = ap (λ (x : Event). x.lock) is.event;
-      }
+  -- it ends in a deadlock
+  pub breaks-cycle : e.kind ≡ kinds.Cycle → BreaksCycle s e
+  breaks-cycle kind = by_sort (sort s e.task e next)
+    where
+      by_sort : Sort s e.task e → BreaksCycle s e
+      by_sort (unsorted isnt) = let is = ap is_sorted kind in absurd (cc)
+      by_sort (begins l path link is) = let its = ap (λ (x : Event). x.kind) is.event in absurd (cc)
+      by_sort (heeds l is) = let its = ap (λ (x : Event). x.kind) is.event in absurd (cc)
+      by_sort (breaks l path is) =
+          let same : path ≡ e.path = sym (ap (λ (x : Event). x.path) is.event) in
+          let ended = ended_cycle l path refl is in
+          record {
+            whole = is.at.at.phased ∙ ap phases.Confirm same;
+            cycle = subst (IsCycle s) same (confirm-cycle s e.task path lawful.walks is.at.at.phased made lawful.kept lawful.rows is.stand);
+            begins = subst (λ (p : List (ℕ × ℕ)). first_task e.task p ≡ e.task) same (confirm-begins s e.task path lawful.walks is.at.at.phased);
+            unblocked = ends-unblocked s made e.task e Deadlock lawful ended;
+            out = ends-out s made e.task e Deadlock lawful next ended;
+            others = ends-others s made e.task e Deadlock lawful ended;
+          }
 
 -- ---- over a run
 
@@ -161,5 +171,6 @@ cycles-law s made events lawful run =
       along = λ prefix rest e cycle is stands responsible first.
           follows (after s prefix) (made + length prefix) e.task e cycle (there prefix (e ∷ rest) is) (next prefix rest e is) stands responsible first;
       stays = λ prefix rest e cycle is responsible other. stays-responsible (after s prefix) e cycle responsible other;
-      restarts = λ prefix rest e is kind. names-broken (after s prefix) (made + length prefix) e.task e (there prefix (e ∷ rest) is) (ap restarts kind) (next prefix rest e is);
+      breaks = λ prefix rest e is kind. breaks-cycle (after s prefix) (made + length prefix) e (there prefix (e ∷ rest) is) (next prefix rest e is) kind;
+      restarts = λ prefix rest e is kind. names-broken (after s prefix) (made + length prefix) e (there prefix (e ∷ rest) is) (next prefix rest e is) kind;
     }

@@ -1,42 +1,28 @@
 -- A run's deadlock answers have their cause.
-use Rattle.std.proofs.Common.{◌≡◌, ◌⊎◌, inl, inr, ℕ, ◌+◌, List, ◌∷◌, ◌++◌, length, refl, sym, ap, ◌∙◌, subst, None}
+use Rattle.std.proofs.Common.{◌≡◌, ◌⊎◌, inl, inr, ℕ, ◌+◌, List, ◌∷◌, ◌++◌, length, refl, ap, ◌∙◌, None}
 use Rattle.rt_base.specs.declared.call.Call.{Call}
 use Rattle.rt_base.specs.declared.id.LockId.{LockId}
 use Rattle.rt_base.specs.declared.id.TaskId.{TaskId}
 use Rattle.rt_base.specs.declared.reply.Reply.TheVariants as replies
 use Rattle.rt_model.specs.declared.event.Event.{Event}
 use Rattle.rt_model.specs.declared.phase.Phase.TheVariants as phases
-use Rattle.rt_model.specs.Rows.{row_of}
 use Rattle.rt_model.specs.State.{State, owner_part, thread_part}
-use Rattle.rt_model.specs.StateAfter.{state_after}
 use Rattle.rt_model.specs.Run.{after, IsRun}
-use Rattle.rt_model.specs.Path.{first_task, IsCycle}
 use Rattle.rt_model.specs.laws.Lawful.{IsLawful}
+use Rattle.rt_model.specs.laws.Cycles.{BreaksCycle}
 use Rattle.rt_model.specs.laws.Deadlocks.{IsHeldItself, IsInCycle, DeadlocksLaw}
 use Rattle.rt_model.proofs.NextEvents.{IsNext}
 use Rattle.rt_model.proofs.events.Own.{IsOwn}
-use Rattle.rt_model.proofs.graph.Standing.{confirm-cycle, confirm-begins}
-use Rattle.rt_model.proofs.laws.Causes.{EndsWait, ended_leave, ended_cycle, ends-out, own-held, HasCause, has-cause}
+use Rattle.rt_model.proofs.laws.Cycles.{breaks-cycle}
+use Rattle.rt_model.proofs.laws.Causes.{EndsWait, ended_leave, ended_cycle, own-held, HasCause, has-cause}
 use Rattle.rt_model.proofs.laws.Holders.{held-owned, holder-told}
 use Rattle.rt_model.proofs.Prefixes.{lawful-there}
 
 -- ---- a wait that a cycle ends
 
--- what holds of the event that ends it
-record EndsByCycle (t : TaskId) (s : State) (e : Event) : Type 0 where
-  cycle : IsCycle s e.path
-  begins : first_task t e.path ≡ t
-  out : (l : LockId) → row_of t (owner_part (state_after s e) l).rows ≡ None
-
-ends-cycle : (s : State) (made : ℕ) (t : TaskId) (e : Event) → IsLawful s made → IsNext s t e → EndsWait s t e replies.Deadlock → EndsByCycle t s e
-ends-cycle s made t e lawful next (ended_leave l its is) = cc
-ends-cycle s made t e lawful next (ended_cycle l path its is) =
-    let same : path ≡ e.path = sym (ap (λ (x : Event). x.path) is.event) in
-    record {
-      cycle = subst (IsCycle s) same (confirm-cycle s t path lawful.walks is.at.at.phased made lawful.kept lawful.rows is.stand);
-      begins = subst (λ (p : List (ℕ × ℕ)). first_task t p ≡ t) same (confirm-begins s t path lawful.walks is.at.at.phased);
-      out = ends-out s made t e replies.Deadlock lawful next (ended_cycle l path its is);
-    }
+ends-cycle : (s : State) (made : ℕ) (e : Event) → IsLawful s made → IsNext s e.task e → EndsWait s e.task e replies.Deadlock → BreaksCycle s e
+ends-cycle s made e lawful next (ended_leave l its is) = cc
+ends-cycle s made e lawful next (ended_cycle l path its is) = breaks-cycle s made e lawful next (ap (λ (x : Event). x.kind) is.event)
 
 -- ---- over a run, from a state in which nobody owns a lock, and no task has made a call's first event
 
@@ -52,18 +38,16 @@ module _ (s : State) (made : ℕ) (events : List Event) (lawful : IsLawful s mad
       }
 
   by_cause : (before rest : List Event) (e : Event) → before ++ e ∷ rest ≡ events
-      → ((call : Call) × IsOwn (after s before) e.task call replies.Deadlock e) ⊎ HasCause replies.Deadlock EndsByCycle s before e
+      → ((call : Call) × IsOwn (after s before) e.task call replies.Deadlock e) ⊎ HasCause replies.Deadlock (λ t s e. BreaksCycle s e) s before e
       → IsHeldItself before e ⊎ IsInCycle s before e
   by_cause before rest e is (inl own) = inl (held-itself before rest e own.0 is own.1)
   by_cause before rest e is (inr cause) = inr (record {
     prefix = cause.prefix;
     cause = cause.cause;
     same_call = cause.same_call;
-    cycle = cause.holds.cycle;
-    begins = cause.holds.begins;
-    out = cause.holds.out;
+    breaks = cause.holds;
   })
 
   pub deadlocks-law : DeadlocksLaw s events
   deadlocks-law = λ before rest e is deadlock.
-      by_cause before rest e is (has-cause replies.Deadlock EndsByCycle refl (λ s made e. ends-cycle s made e.task e) s made events lawful run idle before rest e is deadlock)
+      by_cause before rest e is (has-cause replies.Deadlock (λ t s e. BreaksCycle s e) refl (λ s made e. ends-cycle s made e) s made events lawful run idle before rest e is deadlock)

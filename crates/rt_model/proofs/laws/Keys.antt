@@ -27,7 +27,7 @@ use Rattle.rt_model.specs.steps.Task.{with_top, with_own, refreshed, rest_of, bl
 use Rattle.rt_model.specs.Effect.{Around}
 use Rattle.rt_model.specs.Rules.{effect}
 use Rattle.rt_model.specs.StateAfter.{state_after}
-use Rattle.rt_model.specs.laws.Keys.{StandsAt, IsToConfirm, IsNamed, KeysLaw}
+use Rattle.rt_model.specs.laws.Keys.{StandsAt, IsConfirming, IsNamed, KeysLaw}
 use Rattle.rt_model.specs.laws.Lawful.{IsLawful}
 use Rattle.rt_model.specs.laws.Owners.{owned_by}
 use Rattle.rt_model.proofs.Blocked.{blocked-other}
@@ -61,12 +61,12 @@ stands-names t u (phases.Walk cursor route) stands = stands
 stands-names t u (phases.Confirm path) stands = absurd stands
 stands-names t u _ stands = stands
 
-confirms-names : (t : TaskId) (phase : Phase) → IsToConfirm phase → Names t t phase
+confirms-names : (t : TaskId) (phase : Phase) → IsConfirming phase → Names t t phase
 confirms-names t (phases.Walk cursor route) confirms = absurd confirms
 confirms-names t (phases.Confirm path) confirms = refl
 confirms-names t _ confirms = confirms
 
-names-either : (t u : TaskId) (phase : Phase) → Names t u phase → StandsAt u phase ⊎ ((t ≡ u) × IsToConfirm phase)
+names-either : (t u : TaskId) (phase : Phase) → Names t u phase → StandsAt u phase ⊎ ((t ≡ u) × IsConfirming phase)
 names-either t u (phases.Walk cursor route) names = inl names
 names-either t u (phases.Confirm path) names = inr (names, tt)
 names-either t u _ names = absurd names
@@ -79,9 +79,9 @@ naming s u (inr confirms) = (u, confirms-names u (thread_part s u).phase confirm
 named_by : (s : State) (w u : TaskId) → Names w u (thread_part s w).phase → IsNamed s u
 named_by s w u names = either (names-either w u (thread_part s w).phase names)
   where
-    either : StandsAt u (thread_part s w).phase ⊎ ((w ≡ u) × IsToConfirm (thread_part s w).phase) → IsNamed s u
+    either : StandsAt u (thread_part s w).phase ⊎ ((w ≡ u) × IsConfirming (thread_part s w).phase) → IsNamed s u
     either (inl stands) = inl (w, stands)
-    either (inr confirms) = inr (subst (λ (v : TaskId). IsToConfirm (thread_part s v).phase) confirms.0 confirms.1)
+    either (inr confirms) = inr (subst (λ (v : TaskId). IsConfirming (thread_part s v).phase) confirms.0 confirms.1)
 
 -- a walk that isn't the event's own task's names whom it named
 still_named : (s : State) (e : Event) (u : TaskId) → (Names e.task u (thread_part s e.task).phase → ⊥) → (IsNamed (state_after s e) u → ⊥) → IsNamed s u → ⊥

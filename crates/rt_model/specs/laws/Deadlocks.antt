@@ -1,15 +1,13 @@
 -- The cause of a deadlock answer.
-use Rattle.std.specs.Prelude.{◌≡◌, ◌⊎◌, List, ◌∷◌, ◌++◌, Some, None}
+use Rattle.std.specs.Prelude.{◌≡◌, ◌⊎◌, List, ◌∷◌, ◌++◌, Some}
 use Rattle.rt_base.specs.declared.id.LockId.{LockId}
 use Rattle.rt_base.specs.declared.reply.Reply.TheVariants.{Deadlock}
 use Rattle.rt_model.specs.declared.event.Event.{Event}
 use Rattle.rt_model.specs.declared.event_kind.EventKind.TheVariants.{Own, Cycle}
-use Rattle.rt_model.specs.Rows.{row_of}
-use Rattle.rt_model.specs.State.{State, owner_part}
-use Rattle.rt_model.specs.StateAfter.{state_after}
+use Rattle.rt_model.specs.State.{State}
 use Rattle.rt_model.specs.Run.{after}
-use Rattle.rt_model.specs.Path.{first_task, IsCycle}
 use Rattle.rt_model.specs.laws.Causes.{IsCause}
+use Rattle.rt_model.specs.laws.Cycles.{BreaksCycle}
 use Rattle.rt_model.specs.laws.Holders.{holders_of}
 
 -- a task holds the lock itself, by the events before
@@ -17,15 +15,12 @@ pub record IsHeldItself (before : List Event) (e : Event) : Type 0 where
   pub kind : e.kind ≡ Own
   pub held : (l : LockId) × (e.lock ≡ Some l) × (holders_of before l ≡ Some e.task)
 
--- a task is in a cycle: an event of its call tells of one that stands when the event is made, and that begins with the task; the
--- event takes the task out of the queue
+-- a task is in a cycle: an event of its call tells of one that stands when the event is made, and takes the task out of it
 pub record IsInCycle (s : State) (before : List Event) (e : Event) : Type 0 where
   pub prefix : List Event
   pub cause : Event
   pub same_call : IsCause Cycle before e cause prefix
-  pub cycle : IsCycle (after s prefix) cause.path
-  pub begins : first_task e.task cause.path ≡ e.task
-  pub out : (l : LockId) → row_of e.task (owner_part (state_after (after s prefix) cause) l).rows ≡ None
+  pub breaks : BreaksCycle (after s prefix) cause
 
 -- each deadlock answer has one of these causes
 abbrev pub DeadlocksLaw : State → List Event → Type 0

@@ -12,13 +12,13 @@ StandsAt t (phases.Walk cursor route) = cursor ≡ t
 StandsAt t _ = ⊥
 
 -- a walk in this phase is to be confirmed
-abbrev pub IsToConfirm : Phase → Type 0
-IsToConfirm (phases.Confirm path) = Unit {0}
-IsToConfirm _ = ⊥
+abbrev pub IsConfirming : Phase → Type 0
+IsConfirming (phases.Confirm path) = Unit {0}
+IsConfirming _ = ⊥
 
 -- a walk names the task: one stands at it, or its own is to be confirmed
 abbrev pub IsNamed : State → TaskId → Type 0
-IsNamed s t = ((u : TaskId) × StandsAt t (thread_part s u).phase) ⊎ IsToConfirm (thread_part s t).phase
+IsNamed s t = ((u : TaskId) × StandsAt t (thread_part s u).phase) ⊎ IsConfirming (thread_part s t).phase
 
 -- a blocked task is queued with its effective priority, but where a walk names it
 abbrev pub KeysLaw : State → Type 0

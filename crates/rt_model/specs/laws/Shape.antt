@@ -42,7 +42,8 @@ pub record SameSize (s other : State) : Type 0 where
   pub tasks : length other.tasks ≡ length s.tasks
   pub threads : length other.threads ≡ length s.threads
 
--- the task, the lock, the other task, the owner, the one that is woken and the one whose priority changes are in the state
+-- the task, the lock, the other task, the owner, the one that is woken, the one whose priority changes, and the tasks and locks of
+-- the path are in the state
 pub record IsWithin (tasks locks : ℕ) (e : Event) : Type 0 where
   pub task : e.task.0 < tasks
   pub lock : IfSome e.lock (λ l. l.0 < locks)
@@ -50,3 +51,4 @@ pub record IsWithin (tasks locks : ℕ) (e : Event) : Type 0 where
   pub owner : IfSome e.owner (λ t. t.0 < tasks)
   pub woken : IfSome e.woken (λ t. t.0 < tasks)
   pub boost : IfSome e.boost (λ b. b.0.0 < tasks)
+  pub path : All (λ (pair : ℕ × ℕ). (pair.0 < tasks) × (pair.1 < locks)) e.path

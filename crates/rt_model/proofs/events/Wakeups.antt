@@ -1,14 +1,16 @@
--- States, wakeups and priorities: how they come about.
-use Rattle.std.proofs.Common.{◌≡◌, ℕ, true, false, cond, Bool, refl, sym, Some, None}
+-- States, wakeups and priorities: how they come about, and that their choice reads only what they touch.
+use Rattle.std.proofs.Common.{◌≡◌, ℕ, Bool, true, false, cond, refl, sym, ap, ◌∙◌, subst, Option, Some, None}
 use Rattle.rt_base.specs.declared.call.Call.TheVariants as calls
 use Rattle.rt_base.specs.declared.id.TaskId.{TaskId}
 use Rattle.rt_base.specs.declared.state.TaskState.{TaskState}
 use Rattle.rt_model.specs.declared.event.Event.{Event}
 use Rattle.rt_model.specs.declared.phase.Phase.TheVariants as phases
-use Rattle.rt_model.specs.State.{State, task_part}
+use Rattle.rt_model.specs.State.{State, Shared, task_in, task_part}
 use Rattle.rt_model.specs.steps.Task.{passes}
 use Rattle.rt_model.specs.events.Wakeups.{state_event, sched_event, schedule_event, wake_event, signal_event, setprio_event}
 use Rattle.rt_model.proofs.Calling.{IsIn}
+use Rattle.rt_model.proofs.Touching.{touches-own}
+use Rattle.rt_model.proofs.Alike.{Alike, GivesAlike}
 
 -- ---- how they come about
 
@@ -51,3 +53,16 @@ scheduled s t e at is = by_test (passes (task_part s t)) refl is
 pub record IsSetPrio (s : State) (t u : TaskId) (prio : ℕ) (e : Event) : Type 0 where
   pub at : IsIn s t phases.Start (calls.SetPrio u prio)
   pub event : e ≡ setprio_event t u prio (task_part s u)
+
+-- ---- what the choice reads
+
+-- a task that gives the processor up is looked at where it goes on
+pub same-schedule : (t : TaskId) (a b : Shared) → GivesAlike (λ sh. schedule_event t (task_in sh t)) a b
+same-schedule t a b e is alike = by_test (passes (task_in a t)) is
+  where
+    by_test : (c : Bool) → cond c (Some (sched_event t)) None ≡ Some e → schedule_event t (task_in b t) ≡ Some e
+    by_test true made =
+        let event : sched_event t ≡ e = cc in
+        let task = (subst (λ (x : Event). Alike x a b) (sym event) alike).task t (touches-own (sched_event t) t refl) in
+        ap (schedule_event t) task ∙ is
+    by_test false made = cc

@@ -48,10 +48,10 @@ module _ (s : State) (t : TaskId) (e : Event) (is : IsWakeup s t e) where
       → P u (thread_part (state_after s e) u)
   wakeup-threads P u starts was =
       let task : t ≡ e.task = sym (wakeup-task s t e is) in
-      let phase : (thread_after (shared s) (thread_part s e.task) e).phase ≡ phases.Start =
-      wakeup-holds (λ x. (thread_after (shared s) (thread_part s x.task) x).phase ≡ phases.Start) s t e is (λ state. refl) refl (λ v. refl) (λ v. refl) in
+      let left : ThreadPart = thread_after (shared s) (thread_part s e.task) e in
+      let start = wakeup-holds (λ x. (thread_after (shared s) (thread_part s x.task) x).phase ≡ phases.Start) s t e is (λ state. refl) refl (λ v. refl) (λ v. refl) in
       thread-made P s e e u refl (subst (λ (v : TaskId). v.0 < length s.threads) task (wakeup-at s t e is).1.task)
-      (subst (λ (v : TaskId). P v (thread_after (shared s) (thread_part s e.task) e)) task (starts (thread_after (shared s) (thread_part s e.task) e) phase)) (λ others. was)
+      (subst (λ (v : TaskId). P v left) task (starts left start)) (λ others. was)
 
   pub wakeup-start : (thread_part (state_after s e) t).phase ≡ phases.Start
   wakeup-start = wakeup-threads (λ v thread. thread.phase ≡ phases.Start) t (λ thread start. start) (wakeup-at s t e is).1.phased

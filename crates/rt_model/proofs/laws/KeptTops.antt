@@ -243,7 +243,8 @@ KeptTopsLaw-next s made t e lawful next m u = by_kind next
         (same s made t e u lawful _ l is.event tt ∙ (nothing (owner_part s l).rows (owned_by (owner_part s l).owner u) none ∙ sym (nothing (owner_part s l).rows (nat_eq t.0 u.0) none)))
     by_kind (by_release l (is_free is)) =
         let none : (owner_part s l).rows ≡ [] = (lawful.rows.queue l).clear is.bit in
-        on_lock s made t e u lawful _ l m is.event refl refl is.at.lock (same s made t e u lawful _ l is.event tt ∙ nothing (owner_part s l).rows (owned_by (owner_part s l).owner u) none)
+        on_lock s made t e u lawful _ l m is.event refl refl is.at.lock
+        (same s made t e u lawful _ l is.event tt ∙ nothing (owner_part s l).rows (owned_by (owner_part s l).owner u) none)
     by_kind (by_acquire l (is_take is)) = on_lock s made t e u lawful _ l m is.event refl refl is.lock (take-here s made t e u lawful l is)
     by_kind (by_wait l (is_wait is)) = on_lock s made t e u lawful _ l m is.event refl refl (asks-lock s t phases.Slow l is.at) (wait-here s made t e u lawful l is)
     by_kind (by_walk route cursor (is_walk l key is)) =

@@ -171,9 +171,12 @@ queued_left s made t l e lawful is =
 queued_own : (s : State) (made : ℕ) (t : TaskId) (e : Event) → IsLawful s made → IsNext s t e → IsQueuedAt (state_after s e) t
 queued_own s made t e lawful (by_own call answer is) = answers_at_once s made e _ lawful is.event is.at.task refl refl (start-blocked s made t lawful call is.at)
 queued_own s made t e lawful (by_acquire l (is_fast is)) = answers_at_once s made e _ lawful is.event is.task refl refl (acquires-blocked s made t l lawful is.how)
-queued_own s made t e lawful (by_acquire l (is_busy is)) = answers_at_once s made e _ lawful is.event is.at.at.task refl refl (start-blocked s made t lawful is.at.call is.at.at)
-queued_own s made t e lawful (by_release l (is_free is)) = answers_at_once s made e _ lawful is.event is.at.at.task refl refl (start-blocked s made t lawful is.at.call is.at.at)
-queued_own s made t e lawful (by_release l (is_give is)) = answers_at_once s made e _ lawful is.event is.at.at.task refl refl (start-blocked s made t lawful is.at.call is.at.at)
+queued_own s made t e lawful (by_acquire l (is_busy is)) =
+    answers_at_once s made e _ lawful is.event is.at.at.task refl refl (start-blocked s made t lawful is.at.call is.at.at)
+queued_own s made t e lawful (by_release l (is_free is)) =
+    answers_at_once s made e _ lawful is.event is.at.at.task refl refl (start-blocked s made t lawful is.at.call is.at.at)
+queued_own s made t e lawful (by_release l (is_give is)) =
+    answers_at_once s made e _ lawful is.event is.at.at.task refl refl (start-blocked s made t lawful is.at.call is.at.at)
 queued_own s made t e lawful (by_acquire l (is_take is)) = answers s made e _ lawful is.event is.task refl (take-blocked s t e l lawful.shape is)
 queued_own s made t e lawful (by_acquire l (is_mark is)) =
     own s made e _ lawful is.event is.at.at.task None (Some l) (record { waits = refl; asks = asks-present s t phases.Start l is.at })

@@ -112,8 +112,10 @@ queue-next s made t e m lawful next = by_kind next
         (more made t (effective_of (task_part s t)) (owner_part s l) (slow-unqueued s made t lawful l is.at.call is.at.at) (was l)) (λ there. same m)
     by_kind (by_walk route u (is_walk l key is)) =
         link-locks s made t route u l key e lawful is Queue m (anew made u (task_part s u) key (owner_part s l) (blocked-queued s made u l key lawful.rows is.blocked) (was l)) (λ there. same m)
-    by_kind (by_release l (is_free is)) = lock-made Queue s e _ l m is.event refl is.at.lock (stays l None (owner_part s l).bit (was l).queue.clear) (λ there. same m)
-    by_kind (by_release l (is_give is)) = lock-made Queue s e _ l m is.event refl is.at.lock (stays l None (has_rows (owner_part s l).rows) (no_rows (owner_part s l).rows)) (λ there. same m)
+    by_kind (by_release l (is_free is)) =
+        lock-made Queue s e _ l m is.event refl is.at.lock (stays l None (owner_part s l).bit (was l).queue.clear) (λ there. same m)
+    by_kind (by_release l (is_give is)) =
+        lock-made Queue s e _ l m is.event refl is.at.lock (stays l None (has_rows (owner_part s l).rows) (no_rows (owner_part s l).rows)) (λ there. same m)
 
 -- ---- rows and blocked tasks
 

@@ -13,6 +13,7 @@ pub mod events
 pub mod NextEvents
 pub mod PartsAfter
 pub mod Blocked
+pub mod Calm
 pub mod TaskStates
 -- what an event reads and writes
 pub mod Frame

@@ -243,16 +243,16 @@ impl Thread {
         ensures { self.new ≡ answered_with self.old (Some reply) }
     {
         let Some(call) = self.call() else { return };
-        self.note_answer(call, reply);
-        self.count_answer(call, reply);
+        self.note_answer(&call, reply);
+        self.count_answer(&call, reply);
         self.answered += 1;
         self.phase = Phase::Start;
     }
 
     // Holds what an acquire got, and no longer what a release gave back.
-    fn note_answer(&mut self, call: Call, reply: Reply)
-        requires { IsServed MAX_TASKS (length self.old.kinds) call }
-        ensures { self.new ≡ record self.old { holds = holds_after self.old (Some call) reply } }
+    fn note_answer(&mut self, call: &Call, reply: Reply)
+        requires { IsServed MAX_TASKS (length self.old.kinds) call.now }
+        ensures { self.new ≡ record self.old { holds = holds_after self.old (Some call.now) reply } }
     {
         match (call, reply) {
             (
@@ -262,17 +262,17 @@ impl Thread {
                 | Call::Spin(l)
                 | Call::TrySpin(l),
                 Reply::Got,
-            ) => self.set_owns(l, true),
-            (Call::Unlock(l) | Call::Unspin(l), Reply::Done) => self.set_owns(l, false),
+            ) => self.set_owns(*l, true),
+            (Call::Unlock(l) | Call::Unspin(l), Reply::Done) => self.set_owns(*l, false),
             _ => {}
         }
     }
 
     // Counts a spinlock that it got, `migrate_disable` in `rt_spin_lock`, and no longer one that it gave
     // back, `migrate_enable` in `rt_spin_unlock`.
-    fn count_answer(&mut self, call: Call, reply: Reply)
-        requires { CanCount (Some call) reply self.old.migration }
-        ensures { self.new ≡ record self.old { migration = migration_after self.old.migration (Some call) reply } }
+    fn count_answer(&mut self, call: &Call, reply: Reply)
+        requires { CanCount (Some call.now) reply self.old.migration }
+        ensures { self.new ≡ record self.old { migration = migration_after self.old.migration (Some call.now) reply } }
     {
         match (call, reply) {
             (Call::Spin(_) | Call::TrySpin(_), Reply::Got) => self.migration += 1,

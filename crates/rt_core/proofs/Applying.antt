@@ -41,7 +41,7 @@ use Rattle.rt_model.proofs.Uninvolved.{uninvolved-enabled, uninvolved-walking}
 use Rattle.rt_core.specs.Core.{Made, with_threads}
 use Rattle.rt_core.specs.Enabled.{IsKeptAt, AreKept}
 use Rattle.rt_core.specs.declared.enabled.Enabled.{Enabled}
-use Rattle.rt_core.specs.Links.{HasRoom}
+use Rattle.rt_parts.specs.Links.{HasRoom}
 use Rattle.rt_core.specs.Fits.{NamesLock, CanQueue, CanLink, NamesOwner, CanSet, Fits}
 use Rattle.rt_core.proofs.Choosing.{cursor-within}
 

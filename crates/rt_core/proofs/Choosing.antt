@@ -21,8 +21,8 @@ use Rattle.rt_model.specs.laws.Walks.{IsToConfirm, IsWalkOf}
 use Rattle.rt_model.proofs.Calling.{served_call}
 use Rattle.rt_model.proofs.Lists.{All-both}
 use Rattle.rt_model.proofs.Waiters.{WaitsFor-blocked}
-use Rattle.rt_core.specs.Walking.{CanConfirm, FindsCursor}
-use Rattle.rt_core.proofs.PathLinks.{links-there}
+use Rattle.rt_choice.specs.Walking.{CanConfirm, FindsCursor}
+use Rattle.rt_choice.proofs.PathLinks.{links-there}
 
 -- a pair's task and its lock are there
 abbrev IsThere : State → ℕ × ℕ → Type 0

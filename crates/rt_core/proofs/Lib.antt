@@ -1,15 +1,8 @@
 pub mod TaskBits
 pub mod KeptSets
-pub mod Prefixes
 pub mod PrefixesAll
-pub mod PathLinks
-pub mod OwnerParts
-pub mod SharedSteps
-pub mod TwoCells
-pub mod Holds
-pub mod Starting
 pub mod Leaving
-pub mod Linking
+pub mod LinkedParts
 pub mod Boosts
 pub mod Choosing
 pub mod Applying

@@ -12,7 +12,7 @@ use Rattle.rt_model.specs.Effect.{around}
 use Rattle.rt_model.specs.Rules.{touched}
 use Rattle.rt_model.specs.StateAfter.{effect_in, shared_after}
 use Rattle.rt_walk.specs.Link.{awaited}
-use Rattle.rt_core.specs.Links.{IsQueuedAt, HasRoom}
+use Rattle.rt_parts.specs.Links.{IsQueuedAt, HasRoom}
 
 -- ---- by the kind
 

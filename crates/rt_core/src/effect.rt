@@ -10,10 +10,9 @@ mod wait;
 mod wakeups;
 mod walk;
 
-use crate::shared::Shared;
-use crate::thread::Thread;
 use rt_base::LockId;
 use rt_model::{Event, EventKind};
+use rt_parts::{Shared, Thread};
 
 /// Makes an event of this thread.
 pub fn make(shared: &mut Shared, thread: &mut Thread, e: &Event)

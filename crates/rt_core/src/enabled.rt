@@ -8,13 +8,12 @@ ghost use Rattle.rt_model.specs.Stage.{IsServed};
 ghost use Rattle.rt_core.specs.Core.{with_threads};
 ghost use Rattle.rt_core.specs.Enabled.{IsKeptAt, AreKept};
 
-use crate::next::{is_awake, own_answer};
-use crate::shared::Shared;
 use crate::task_set::TaskSet;
-use crate::thread::Thread;
 use rt_base::limits::MAX_TASKS;
 use rt_base::{Call, TaskId};
+use rt_choice::{is_awake, own_answer};
 use rt_model::{Event, Phase};
+use rt_parts::{Shared, Thread};
 use rt_tasks::TaskCell;
 
 /// Which tasks have a next event, and which of those are in an unfinished chain walk, kept from event to

@@ -9,10 +9,9 @@ ghost use Rattle.rt_model.specs.steps.Task.{with_own, woken_by};
 ghost use Rattle.rt_core.specs.Fits.{IsPriority};
 
 use crate::effect::walk::first_phase;
-use crate::shared::Shared;
-use crate::thread::Thread;
 use rt_base::{Prio, Reply};
 use rt_model::Event;
+use rt_parts::{Shared, Thread};
 
 /// The other task gets a signal, `signal_wake_up`, or a wakeup, `try_to_wake_up`, by the number that tells
 /// them apart.

@@ -18,6 +18,9 @@ pub mod Deadlocks
 pub mod Interrupts
 pub mod Cycles
 pub mod Priorities
+pub mod Flat
+pub mod Followed
+pub mod Wakeups
 pub mod Calls
 pub mod Rest
 pub mod Sound

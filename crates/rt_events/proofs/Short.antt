@@ -18,8 +18,9 @@ use Rattle.rt_base.specs.declared.state.TaskState.TheVariants as states
 use Rattle.rt_model.specs.declared.event_kind.EventKind.{EventKind}
 use Rattle.rt_model.specs.declared.event_kind.EventKind.TheVariants as kinds
 use Rattle.rt_model.proofs.Lists.{All-default}
+use Rattle.rt_model.specs.steps.Task.{state_numbered}
 use Rattle.rt_events.specs.declared.entry.Entry.{Entry}
-use Rattle.rt_events.specs.Words.{spaced, wake_word, kind_word, state_word, state_numbered, cell_word, task_word, lock_word, task_or_dash}
+use Rattle.rt_events.specs.Words.{spaced, wake_word, kind_word, state_word, cell_word, task_word, lock_word, task_or_dash}
 use Rattle.rt_events.specs.Line.{lock_words, task_words, wakes_words, reader_words, link_word, operands, boost_words, reply_words, line_of}
 use Rattle.rt_events.specs.WellFormed.{IsTaskIn, IsLockIn, IsLinkIn, HasValue, HasPath, IsWellFormed}
 use Rattle.rt_events.proofs.Named.{named}

@@ -6,8 +6,9 @@ use Rattle.rt_base.specs.declared.id.TaskId.{TaskId}
 use Rattle.rt_base.specs.declared.reply.Reply.{Reply}
 use Rattle.rt_model.specs.declared.event_kind.EventKind.{EventKind}
 use Rattle.rt_model.specs.declared.event_kind.EventKind.TheVariants as kinds
+use Rattle.rt_model.specs.steps.Task.{state_numbered}
 use Rattle.rt_events.specs.declared.entry.Entry.{Entry}
-use Rattle.rt_events.specs.Words.{spaced, kind_word, state_word, state_numbered, reply_word, task_word, lock_word, task_or_dash}
+use Rattle.rt_events.specs.Words.{spaced, kind_word, state_word, reply_word, task_word, lock_word, task_or_dash}
 
 abbrev pub lock_words : Script → Option LockId → List (List ℕ)
 lock_words script None = []

@@ -9,8 +9,6 @@ use Rattle.rt_base.specs.declared.id.LockId.{LockId}
 use Rattle.rt_base.specs.declared.id.TaskId.{TaskId}
 use Rattle.rt_base.specs.declared.reply.Reply.{Reply}
 use Rattle.rt_base.specs.declared.reply.Reply.TheVariants as replies
-use Rattle.rt_base.specs.declared.state.TaskState.{TaskState}
-use Rattle.rt_base.specs.declared.state.TaskState.TheVariants as states
 use Rattle.rt_model.specs.declared.event_kind.EventKind.{EventKind}
 use Rattle.rt_model.specs.declared.event_kind.EventKind.TheVariants as kinds
 
@@ -57,10 +55,6 @@ reply_word replies.Pinned = codes "pinned"
 reply_word replies.Woke = codes "woke"
 reply_word replies.Missed = codes "missed"
 reply_word replies.Done = codes "done"
-
--- the state of a number: R, S or D
-abbrev pub state_numbered : ℕ → TaskState
-state_numbered value = if nat_eq value 0 then states.Running else if nat_eq value 1 then states.Interruptible else states.Uninterruptible
 
 abbrev pub end_word : Ended → List ℕ
 end_word ends.Done = codes "done"

@@ -8,6 +8,7 @@ mod footprint;
 mod journal;
 mod line;
 mod operands;
+mod state_numbers;
 #[cfg(test)]
 mod tests;
 mod well_formed;
@@ -20,5 +21,6 @@ pub use footprint::{disjoint, touches};
 pub use journal::{write_end_line, write_header};
 pub use line::write_line;
 pub use rt_model::{Event, EventKind, Obj};
+pub use state_numbers::{state_number, state_numbered};
 pub use well_formed::is_well_formed;
 pub use words::{WORD_ROOM, push_lock, push_task, push_task_or_dash};

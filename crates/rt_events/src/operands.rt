@@ -7,7 +7,8 @@ ghost use Rattle.rt_events.specs.WellFormed.{IsTaskIn, IsLockIn, IsLinkIn, IsNam
 
 use crate::appending::{push_number, push_word};
 use crate::entry::Entry;
-use crate::words::{WORD_ROOM, push_lock, push_task, push_task_or_dash, state_numbered};
+use crate::state_numbers::state_numbered;
+use crate::words::{WORD_ROOM, push_lock, push_task, push_task_or_dash};
 use rt_base::limits::MAX_TASKS;
 use rt_base::{LockId, Path, TaskId};
 use rt_model::EventKind;

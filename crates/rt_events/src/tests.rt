@@ -1,7 +1,7 @@
 use super::*;
 use rt_base::Reply::{Deadlock, Done, Got, Interrupted, Missed, Nesting, NotOwner, Pinned, Woke};
 use rt_base::limits::LINE_LIMIT;
-use rt_base::{Ended, LockId, Path, Prio, Reply, TaskId};
+use rt_base::{Ended, LockId, Path, Prio, Reply, TaskId, TaskState};
 use rt_model::EventKind::*;
 use rt_script::{Script, read_script};
 use std::process::Abort;
@@ -293,6 +293,18 @@ fn each_kind_has_its_footprint(rt: HostRuntime) {
     }
     touches_these(&rt, &on(Busy, M), [first, own].as_slice());
     touches_these(&rt, &valued(1, &on(Busy, M)), [readers].as_slice());
+}
+
+#[test]
+fn each_state_that_a_task_sets_has_its_number(rt: HostRuntime) {
+    for (state, number) in [
+        (TaskState::Running, 0),
+        (TaskState::Interruptible, 1),
+        (TaskState::Uninterruptible, 2),
+    ] {
+        assert_eq!(rt; state_number(state), number);
+        assert_eq!(rt; state_numbered(number), state);
+    }
 }
 
 // Task a is queued behind task c.

@@ -1,10 +1,10 @@
 ghost use Rattle.std.specs.Prelude.{◌≡◌, ◌+◌, ◌<◌, ◌≤◌, ◌∷◌, ◌++◌, length, vec_len, Option, IfSome};
 ghost use Rattle.std.specs.Vec.{vec_capacity};
-ghost use Rattle.rt_events.specs.Words.{wake_word, kind_word, reply_word, state_word, state_numbered, end_word, task_word, task_or_dash, cell_word, lock_word};
+ghost use Rattle.rt_events.specs.Words.{wake_word, kind_word, reply_word, end_word, task_word, task_or_dash, cell_word, lock_word};
 ghost use Rattle.rt_base.specs.Script.{lock_line};
 
 use crate::appending::{push_byte, push_small, push_word};
-use rt_base::{Cpu, Ended, LockId, Reply, TaskId, TaskState};
+use rt_base::{Cpu, Ended, LockId, Reply, TaskId};
 use rt_model::EventKind;
 use rt_script::Script;
 
@@ -69,17 +69,6 @@ pub(crate) fn reply_text(reply: Reply) -> &'static str
         Reply::Woke => "woke",
         Reply::Missed => "missed",
         Reply::Done => "done",
-    }
-}
-
-// The state of a number.
-pub(crate) fn state_numbered(value: u8) -> TaskState
-    ensures { result ≡ state_numbered value }
-{
-    match value {
-        0 => TaskState::Running,
-        1 => TaskState::Interruptible,
-        _ => TaskState::Uninterruptible,
     }
 }
 

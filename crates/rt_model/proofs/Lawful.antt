@@ -13,7 +13,8 @@ use Rattle.rt_model.proofs.laws.Rows.{RowsLaw-next}
 use Rattle.rt_model.proofs.laws.KeptTops.{KeptTopsLaw-next}
 use Rattle.rt_model.proofs.laws.Queued.{QueuedLaw-next}
 use Rattle.rt_model.proofs.laws.Owners.{OwnersLaw-next}
-use Rattle.rt_model.proofs.laws.States.{StatesLaw-after}
+use Rattle.rt_model.proofs.laws.Migration.{MigrationLaw-next}
+use Rattle.rt_model.proofs.laws.States.{StatesLaw-next}
 use Rattle.rt_model.proofs.laws.AwakeTop.{AwakeTopLaw-next}
 use Rattle.rt_model.proofs.laws.Keys.{KeysLaw-next}
 use Rattle.rt_model.proofs.laws.Walks.{WalksLaw-next}
@@ -31,7 +32,8 @@ IsLawful-next s made t e lawful next =
       kept = KeptTopsLaw-next s made t e lawful next;
       queued = QueuedLaw-next s made t e lawful next;
       owners = OwnersLaw-next s made t e lawful next;
-      states = StatesLaw-after s e lawful.stage lawful.states;
+      migration = MigrationLaw-next s made t e lawful next;
+      states = StatesLaw-next s made t e lawful next;
       awake = AwakeTopLaw-next s made t e lawful next;
       keys = KeysLaw-next s made t e lawful next;
       walks = WalksLaw-next s made t e lawful next;

@@ -1,6 +1,7 @@
--- lists, numbers, and the rows of a lock
+-- lists, numbers, what a thread's holds count, and the rows of a lock
 pub mod Lists
 pub mod Numbers
+pub mod Holds
 pub mod CellStepLemmas
 pub mod Queues
 -- how an event comes about, and the parts that it leaves
@@ -12,6 +13,7 @@ pub mod events
 pub mod NextEvents
 pub mod PartsAfter
 pub mod Blocked
+pub mod Calm
 pub mod TaskStates
 -- what an event reads and writes
 pub mod Frame

@@ -1,4 +1,4 @@
--- What a link of a walk leaves, a walk's end, a restart, a signal and a setprio.
+-- What a link of a walk leaves, a walk's end, a restart, and a setprio.
 use Rattle.std.proofs.Common.{◌≡◌, ℕ, ◌<◌, Bool, true, false, cond, List, [], length, refl, sym, ap, ◌∙◌, subst, Option, Some, None, IfSome, ◌&&◌, is_none}
 use Rattle.std.specs.Prelude.{nat_eq}
 use Rattle.std.proofs.lemmas.Bool.{cond-true, cond-false, cond_both}
@@ -17,11 +17,11 @@ use Rattle.rt_model.specs.Rows.{top_changed, top_task}
 use Rattle.rt_model.specs.Path.{Link}
 use Rattle.rt_model.specs.State.{State, shared, task_at, owner_part, task_part, thread_part}
 use Rattle.rt_model.specs.steps.Lock.{requeued}
-use Rattle.rt_model.specs.steps.Task.{with_own, lock_woken, signalled, signal_answer}
+use Rattle.rt_model.specs.steps.Task.{with_own, lock_woken}
 use Rattle.rt_model.specs.steps.Thread.{answered_with}
 use Rattle.rt_model.specs.steps.Chain.{has_old_key, requeued_where_old, rekeyed, refreshed_where_changed, newly_top, followed, goes_on, phase_of_walk, answer_of_walk}
 use Rattle.rt_model.specs.events.Walk.{walkend_event, walk_event, phase_after_link, phase_after_end, restart_event}
-use Rattle.rt_model.specs.events.Wakeups.{signal_event, setprio_event}
+use Rattle.rt_model.specs.events.Wakeups.{setprio_event}
 use Rattle.rt_model.specs.Rules.{touched}
 use Rattle.rt_model.specs.StateAfter.{effect_in, lock_left, thread_after, state_after}
 use Rattle.rt_model.specs.laws.Lawful.{IsLawful}
@@ -33,7 +33,7 @@ use Rattle.rt_model.proofs.Numbers.{number_itself, other_way}
 use Rattle.rt_model.proofs.PartsAfter.{SlotsThere, slots-made, other-made, task-keeps, lock-made, locks-kept}
 use Rattle.rt_model.proofs.Waiters.{IsLink, walk-link, walk-phase}
 use Rattle.rt_model.proofs.events.Walk.{IsWalk, IsWalkEnd, is_walk, IsRestart}
-use Rattle.rt_model.proofs.events.Wakeups.{IsSignal, IsSetPrio}
+use Rattle.rt_model.proofs.events.Wakeups.{IsSetPrio}
 
 -- a thread whose walk goes on to this phase, or ends
 abbrev pub walked_thread : ThreadPart → Route → Option Phase → ThreadPart
@@ -178,7 +178,7 @@ module _ (s : State) (t : TaskId) (l : LockId) (path : List (ℕ × ℕ)) (link 
   pub restart-lock : (m : LockId) → owner_part (state_after s e) m ≡ owner_part s m
   restart-lock m = ap (λ (y : Event). owner_part (state_after s y) m) is.event ∙ locks-kept s (restart_event t path link) m (λ lock. refl)
 
--- ---- a signal, and a setprio: one other task, or the own, is changed
+-- ---- a setprio: one other task, or the own, is changed
 
 -- an event that changes task u by f, and no other
 record ChangesOther (s : State) (x : Event) (u : TaskId) (f : TaskPart → TaskPart) : Type 0 where
@@ -200,28 +200,6 @@ other-task s u f e x v is there alone =
 
     named : (w : TaskId) → owned_by (touched x.kind x).other w ≡ nat_eq u.0 w.0
     named w = ap (λ (o : Option TaskId). owned_by o w) alone.named
-
-module _ (s : State) (made : ℕ) (t u : TaskId) (e : Event) (lawful : IsLawful s made) (is : IsSignal s t u e) where
-  abbrev pub signal_made : Event
-  signal_made = signal_event t u (task_part s u)
-
-  -- its target is signalled, and every other task is as it was
-  pub signal-task : (v : TaskId) → task_part (state_after s e) v ≡ cond (nat_eq u.0 v.0) (signalled (task_part s v)) (task_part s v)
-  signal-task v =
-      other-task s u signalled e signal_made v is.event (slots_there s signal_made lawful.shape tt is.at.served tt)
-      (record { named = refl; own = λ task. refl; owner = λ task. refl; other = λ task. refl; woken = λ task. refl })
-
-  pub signal-target : task_part (state_after s e) u ≡ signalled (task_part s u)
-  signal-target = signal-task u ∙ cond-true (nat_eq u.0 u.0) (signalled (task_part s u)) (task_part s u) (number_itself u.0)
-
-  pub signal-lock : (m : LockId) → owner_part (state_after s e) m ≡ owner_part s m
-  signal-lock m = ap (λ (y : Event). owner_part (state_after s y) m) is.event ∙ locks-kept s signal_made m (λ lock. refl)
-
-  -- its call is answered
-  pub signal-thread : thread_after (shared s) (thread_part s t) signal_made ≡ answered_with (thread_part s t) (Some (signal_answer (task_part s u)))
-  signal-thread = refl
-
--- ---- a setprio
 
 module _ (s : State) (made : ℕ) (t u : TaskId) (prio : ℕ) (e : Event) (lawful : IsLawful s made) (is : IsSetPrio s t u prio e) where
   abbrev pub setprio_made : Event

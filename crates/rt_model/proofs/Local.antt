@@ -19,7 +19,8 @@ use Rattle.rt_model.specs.events.Release.{give_event, release_event}
 use Rattle.rt_model.specs.events.Wait.{wait_event, slow_event, leave_event, again_event, is_interrupted, is_awake, awake_event}
 use Rattle.rt_model.specs.Path.{Link, first_broken}
 use Rattle.rt_model.specs.events.Walk.{cursor_event, confirmed_event}
-use Rattle.rt_model.specs.events.Wakeups.{signal_event, setprio_event}
+use Rattle.rt_model.specs.events.Wakeups.{sched_event, wake_event, signal_event, setprio_event}
+use Rattle.rt_model.specs.steps.Task.{passes}
 use Rattle.rt_model.specs.events.Own.{own_answer}
 use Rattle.rt_model.specs.CanMove.{has_first, can_go_on, can_in, can_at, can_move}
 use Rattle.rt_model.specs.NextEvent.{answered_or, first_event, later_event, event_in, event_of, next_of, next_event}
@@ -31,6 +32,7 @@ use Rattle.rt_model.proofs.events.Acquire.{same-acquire, same-try}
 use Rattle.rt_model.proofs.events.Release.{same-release}
 use Rattle.rt_model.proofs.events.Taking.{same-slow, same-queued}
 use Rattle.rt_model.proofs.events.Walk.{same-cursor}
+use Rattle.rt_model.proofs.events.Wakeups.{same-schedule}
 use Rattle.rt_model.proofs.events.Confirm.{same-confirmed}
 
 -- ---- a task's next event is its own
@@ -42,13 +44,27 @@ either-own : (t : TaskId) (b : Bool) (x y : Event) → x.task ≡ t → y.task �
 either-own t true x y first second = first
 either-own t false x y first second = second
 
+-- a choice that a test makes has an event where it passes
+where-own : (t : TaskId) (b : Bool) (e : Event) → e.task ≡ t → IsOwn t (cond b (Some e) None)
+where-own t true e own = own
+where-own t false e own = tt
+
+try-own : (sh : Shared) (t : TaskId) (thread : ThreadPart) (l : LockId) → (try_event t l (kind_of thread l) (lock_in sh l) (task_in sh t)).task ≡ t
+try-own sh t thread l =
+    either-own t (is_free (lock_in sh l)) (fast_event t l) _ refl
+    (either-own t (can_take t (kind_of thread l) (lock_in sh l) (task_in sh t)) (take_event t l (kind_of thread l) (lock_in sh l) (task_in sh t)) (busy_event t l (lock_in sh l)) refl refl)
+
 first-own : (sh : Shared) (t : TaskId) (thread : ThreadPart) (call : Call) → IsOwn t (first_event sh t thread call)
 first-own sh t thread (calls.Lock l) = either-own t (is_free (lock_in sh l)) _ _ refl refl
 first-own sh t thread (calls.LockInt l) = either-own t (is_free (lock_in sh l)) _ _ refl refl
-first-own sh t thread (calls.TryLock l) =
-    either-own t (is_free (lock_in sh l)) (fast_event t l) _ refl
-    (either-own t (can_take t (kind_of thread l) (lock_in sh l) (task_in sh t)) (take_event t l (kind_of thread l) (lock_in sh l) (task_in sh t)) (busy_event t l (lock_in sh l)) refl refl)
+first-own sh t thread (calls.TryLock l) = try-own sh t thread l
 first-own sh t thread (calls.Unlock l) = either-own t (lock_in sh l).bit (give_event t l (lock_in sh l) (task_in sh t)) _ refl refl
+first-own sh t thread (calls.Spin l) = either-own t (is_free (lock_in sh l)) _ _ refl refl
+first-own sh t thread (calls.TrySpin l) = try-own sh t thread l
+first-own sh t thread (calls.Unspin l) = either-own t (lock_in sh l).bit (give_event t l (lock_in sh l) (task_in sh t)) _ refl refl
+first-own sh t thread (calls.State state) = refl
+first-own sh t thread calls.Schedule = where-own t (passes (task_in sh t)) (sched_event t) refl
+first-own sh t thread (calls.Wake u) = refl
 first-own sh t thread (calls.Signal u) = refl
 first-own sh t thread (calls.SetPrio u prio) = refl
 first-own sh t thread _ = tt
@@ -68,11 +84,6 @@ confirmed-own sh t path (Some link) = refl
 awake-own : (call : Option Call) (t : TaskId) (l : LockId) (kind : Kind) (lock : OwnerPart) (task owner : TaskPart) → (awake_event call t l kind lock task owner).task ≡ t
 awake-own call t l kind lock task owner =
     either-own t (can_take t kind lock task) (take_event t l kind lock task) _ refl (either-own t (is_interrupted call task) (leave_event t l lock owner) (again_event t l) refl refl)
-
--- a choice that a test makes has an event where it passes
-where-own : (t : TaskId) (b : Bool) (e : Event) → e.task ≡ t → IsOwn t (cond b (Some e) None)
-where-own t true e own = own
-where-own t false e own = tt
 
 later-own : (phase : Phase) (sh : Shared) (t : TaskId) (thread : ThreadPart) (lock : Option LockId) → IsOwn t (later_event phase sh t thread lock)
 later-own phases.Slow sh t thread (Some l) =
@@ -99,6 +110,11 @@ task-next_event s t e is = subst (IsOwn t) is (at_call-own (shared s) t (thread_
 
 local-first : (t : TaskId) (thread : ThreadPart) (call : Call) (a b : Shared) → GivesAlike (λ sh. first_event sh t thread call) a b
 local-first t thread (calls.TryLock l) a b = gives_alike (λ sh. try_event t l (kind_of thread l) (lock_in sh l) (task_in sh t)) a b (same-try a b t l (kind_of thread l))
+local-first t thread (calls.Spin l) a b = gives_alike (λ sh. acquire_event t l (lock_in sh l)) a b (same-acquire a b t l)
+local-first t thread (calls.TrySpin l) a b = gives_alike (λ sh. try_event t l (kind_of thread l) (lock_in sh l) (task_in sh t)) a b (same-try a b t l (kind_of thread l))
+local-first t thread (calls.Unspin l) a b = gives_alike (λ sh. release_event t l (lock_in sh l) (task_in sh t)) a b (same-release a b t l)
+local-first t thread calls.Schedule a b = same-schedule t a b
+local-first t thread (calls.Wake u) a b = gives_alike (λ sh. wake_event t u (task_in sh u)) a b (same-other a b u (wake_event t u) refl)
 local-first t thread (calls.Signal u) a b = gives_alike (λ sh. signal_event t u (task_in sh u)) a b (same-other a b u (signal_event t u) refl)
 local-first t thread (calls.SetPrio u prio) a b = gives_alike (λ sh. setprio_event t u prio (task_in sh u)) a b (same-other a b u (setprio_event t u prio) refl)
 local-first t thread (calls.Lock l) a b = gives_alike (λ sh. acquire_event t l (lock_in sh l)) a b (same-acquire a b t l)
@@ -135,22 +151,28 @@ local s other t e is agree =
 
 -- ---- none
 
-has-first : (sh : Shared) (t : TaskId) (thread : ThreadPart) (call : Call) → is_some (first_event sh t thread call) ≡ has_first call
+has-where : (b : Bool) (e : Event) → is_some (cond b (Some e) None) ≡ b
+has-where true e = refl
+has-where false e = refl
+
+has-first : (sh : Shared) (t : TaskId) (thread : ThreadPart) (call : Call) → is_some (first_event sh t thread call) ≡ has_first call (task_in sh t)
 has-first sh t thread (calls.Lock l) = refl
 has-first sh t thread (calls.LockInt l) = refl
 has-first sh t thread (calls.TryLock l) = refl
 has-first sh t thread (calls.Unlock l) = refl
+has-first sh t thread (calls.Spin l) = refl
+has-first sh t thread (calls.TrySpin l) = refl
+has-first sh t thread (calls.Unspin l) = refl
+has-first sh t thread (calls.State state) = refl
+has-first sh t thread calls.Schedule = has-where (passes (task_in sh t)) (sched_event t)
+has-first sh t thread (calls.Wake u) = refl
 has-first sh t thread (calls.Signal u) = refl
 has-first sh t thread (calls.SetPrio u prio) = refl
 has-first sh t thread _ = refl
 
-has-answered : (sh : Shared) (t : TaskId) (thread : ThreadPart) (call : Call) (lock : Option LockId) (answer : Option Reply) → is_some (answered_or (first_event sh t thread call) t lock answer) ≡ (is_some answer || has_first call)
+has-answered : (sh : Shared) (t : TaskId) (thread : ThreadPart) (call : Call) (lock : Option LockId) (answer : Option Reply) → is_some (answered_or (first_event sh t thread call) t lock answer) ≡ (is_some answer || has_first call (task_in sh t))
 has-answered sh t thread call lock None = has-first sh t thread call
 has-answered sh t thread call lock (Some answer) = refl
-
-has-where : (b : Bool) (e : Event) → is_some (cond b (Some e) None) ≡ b
-has-where true e = refl
-has-where false e = refl
 
 has-later : (phase : Phase) (sh : Shared) (t : TaskId) (thread : ThreadPart) (lock : Option LockId) → is_some (later_event phase sh t thread lock) ≡ can_go_on phase thread (task_in sh t) lock
 has-later phases.Slow sh t thread (Some l) = refl

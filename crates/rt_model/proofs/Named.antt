@@ -25,13 +25,13 @@ use Rattle.rt_model.specs.steps.Chain.{has_old_key, requeued_where_old, newly_to
 use Rattle.rt_model.specs.laws.Lawful.{IsLawful}
 use Rattle.rt_model.specs.laws.Shape.{IsWithin}
 use Rattle.rt_model.proofs.Calling.{asks-lock}
-use Rattle.rt_model.proofs.NextEvents.{IsNext, by_own, by_acquire, by_wait, by_release, by_walk, by_confirm, by_signal, by_setprio}
+use Rattle.rt_model.proofs.NextEvents.{IsNext, by_own, by_acquire, by_wait, by_release, by_walk, by_confirm, by_wakeup, by_setprio}
 use Rattle.rt_model.proofs.events.Own.{IsOwn}
 use Rattle.rt_model.proofs.events.Acquire.{IsAcquire, is_fast, is_mark, is_take, is_busy}
 use Rattle.rt_model.proofs.events.Wait.{IsWaiting, is_wait, is_again, is_leave}
 use Rattle.rt_model.proofs.events.Release.{IsRelease, is_free, is_give}
 use Rattle.rt_model.proofs.events.Walk.{IsWalking, is_walk, is_walkend, IsRestart, IsCycleEvent, is_restart, is_cycle}
-use Rattle.rt_model.proofs.events.Wakeups.{IsSignal, IsSetPrio}
+use Rattle.rt_model.proofs.events.Wakeups.{IsWakeup, is_state, is_sched, is_wake, is_signal, IsSetPrio}
 use Rattle.rt_model.proofs.Queues.{top-holds, All-insert_row}
 use Rattle.rt_model.proofs.Waiters.{cursor-there, confirm-walk, round-begins, walk-link}
 use Rattle.rt_model.proofs.PathLinks.{All-links_of, broken-holds}
@@ -42,6 +42,12 @@ called_within m n cpu (calls.Lock l) served = served
 called_within m n cpu (calls.LockInt l) served = served
 called_within m n cpu (calls.TryLock l) served = served
 called_within m n cpu (calls.Unlock l) served = served
+called_within m n cpu (calls.Spin l) served = served
+called_within m n cpu (calls.TrySpin l) served = served
+called_within m n cpu (calls.Unspin l) served = served
+called_within m n cpu (calls.State state) served = tt
+called_within m n cpu calls.Schedule served = tt
+called_within m n cpu (calls.Wake u) served = tt
 called_within m n cpu (calls.Signal u) served = tt
 called_within m n cpu (calls.SetPrio u prio) served = tt
 called_within m n cpu _ served = absurd served
@@ -97,7 +103,7 @@ module _ (s : State) (made : ℕ) (t : TaskId) (e : Event) (lawful : IsLawful s 
   of_acquire l (is_fast is) = subst Within (sym is.event) (record { task = is.task; lock = is.lock; other = tt; owner = tt; woken = tt; boost = tt; path = none })
   of_acquire l (is_mark is) = subst Within (sym is.event) (record { task = is.at.at.task; lock = asks-lock s t phases.Start l is.at; other = tt; owner = tt; woken = tt; boost = tt; path = none })
   of_acquire l (is_take is) = subst Within (sym is.event) (record { task = is.task; lock = is.lock; other = tt; owner = tt; woken = tt; boost = boost_within (length s.threads) t _ _ is.task; path = none })
-  of_acquire l (is_busy is) = subst Within (sym is.event) (record { task = is.at.task; lock = is.at.served; other = tt; owner = owner_within s l lawful.shape is.at.served; woken = tt; boost = tt; path = none })
+  of_acquire l (is_busy is) = subst Within (sym is.event) (record { task = is.at.at.task; lock = is.at.lock; other = tt; owner = owner_within s l lawful.shape is.at.lock; woken = tt; boost = tt; path = none })
 
   of_wait : (l : LockId) → IsWaiting s t l e → Within e
   of_wait l (is_wait is) =
@@ -110,10 +116,10 @@ module _ (s : State) (made : ℕ) (t : TaskId) (e : Event) (lawful : IsLawful s 
       subst Within (sym is.event) (record { task = is.at.task; lock = is.at.served; other = tt; owner = owner; woken = tt; boost = boost_at_within (length s.threads) (owner_part s l).owner _ _ owner; path = none })
 
   of_release : (l : LockId) → IsRelease s t l e → Within e
-  of_release l (is_free is) = subst Within (sym is.event) (record { task = is.at.task; lock = is.at.served; other = tt; owner = tt; woken = tt; boost = tt; path = none })
+  of_release l (is_free is) = subst Within (sym is.event) (record { task = is.at.at.task; lock = is.at.lock; other = tt; owner = tt; woken = tt; boost = tt; path = none })
   of_release l (is_give is) =
-      let woken = top_within (length s.threads) (owner_part s l).rows (rows_within s l lawful.shape is.at.served) in
-      subst Within (sym is.event) (record { task = is.at.task; lock = is.at.served; other = tt; owner = tt; woken = woken; boost = boost_within (length s.threads) t _ _ is.at.task; path = none })
+      let woken = top_within (length s.threads) (owner_part s l).rows (rows_within s l lawful.shape is.at.lock) in
+      subst Within (sym is.event) (record { task = is.at.at.task; lock = is.at.lock; other = tt; owner = tt; woken = woken; boost = boost_within (length s.threads) t _ _ is.at.at.task; path = none })
 
   pub of_walk : (route : Route) (u : TaskId) → IsWalking s t route u e → Within e
   of_walk route u (is_walk l key is) =
@@ -153,8 +159,11 @@ module _ (s : State) (made : ℕ) (t : TaskId) (e : Event) (lawful : IsLawful s 
       let link_there = broken-holds (λ (link : Link). (link.from.0 < length s.threads) × (link.lock.0 < length s.locks)) s path link there is.broken in
       subst Within (sym is.event) (record { task = is.at.at.task; lock = link_there.1; other = link_there.0; owner = tt; woken = tt; boost = tt; path = (confirm-walk s made t path l lawful is.at).there })
 
-  of_signal : (u : TaskId) → IsSignal s t u e → Within e
-  of_signal u is = subst Within (sym is.event) (record { task = is.at.task; lock = tt; other = is.at.served; owner = tt; woken = tt; boost = tt; path = none })
+  of_wakeup : IsWakeup s t e → Within e
+  of_wakeup (is_state state is) = subst Within (sym is.event) (record { task = is.at.task; lock = tt; other = tt; owner = tt; woken = tt; boost = tt; path = none })
+  of_wakeup (is_sched is) = subst Within (sym is.event) (record { task = is.at.task; lock = tt; other = tt; owner = tt; woken = tt; boost = tt; path = none })
+  of_wakeup (is_wake u is) = subst Within (sym is.event) (record { task = is.at.task; lock = tt; other = is.at.served; owner = tt; woken = tt; boost = tt; path = none })
+  of_wakeup (is_signal u is) = subst Within (sym is.event) (record { task = is.at.task; lock = tt; other = is.at.served; owner = tt; woken = tt; boost = tt; path = none })
 
   of_setprio : (u : TaskId) (prio : ℕ) → IsSetPrio s t u prio e → Within e
   of_setprio u prio is = subst Within (sym is.event) (record { task = is.at.task; lock = tt; other = is.at.served.0; owner = tt; woken = tt; boost = boost_within (length s.threads) u _ _ is.at.served.0; path = none })
@@ -168,5 +177,5 @@ within s made t e lawful (by_release l is) = of_release s made t e lawful l is
 within s made t e lawful (by_walk route u is) = of_walk s made t e lawful route u is
 within s made t e lawful (by_confirm l path (is_restart link is)) = of_restart s made t e lawful l path link is
 within s made t e lawful (by_confirm l path (is_cycle is)) = of_cycle s made t e lawful l path is
-within s made t e lawful (by_signal u is) = of_signal s made t e lawful u is
+within s made t e lawful (by_wakeup is) = of_wakeup s made t e lawful is
 within s made t e lawful (by_setprio u prio is) = of_setprio s made t e lawful u prio is

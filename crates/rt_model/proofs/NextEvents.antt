@@ -18,17 +18,17 @@ use Rattle.rt_model.specs.events.Acquire.{acquire_event, try_event}
 use Rattle.rt_model.specs.events.Release.{release_event}
 use Rattle.rt_model.specs.events.Wait.{slow_event}
 use Rattle.rt_model.specs.events.Walk.{cursor_event, confirmed_event}
-use Rattle.rt_model.specs.events.Wakeups.{signal_event, setprio_event}
+use Rattle.rt_model.specs.events.Wakeups.{state_event, wake_event, signal_event, setprio_event}
 use Rattle.rt_model.specs.events.Own.{own_answer}
 use Rattle.rt_model.specs.NextEvent.{first_event, answered_or, later_event, event_in, event_of, next_event}
 use Rattle.rt_model.specs.laws.Phases.{PhasesLaw}
-use Rattle.rt_model.proofs.Calling.{IsIn, at_call, served_call, by_lock, by_lockint, asked}
-use Rattle.rt_model.proofs.events.Own.{IsOwn, not_held, was_held}
+use Rattle.rt_model.proofs.Calling.{IsIn, at_call, served_call, by_lock, by_lockint, by_spin, by_trylock, by_tryspin, by_unlock, by_unspin, asked}
+use Rattle.rt_model.proofs.events.Own.{IsOwn, not_held, unheld, was_held}
 use Rattle.rt_model.proofs.events.Acquire.{IsAcquire, IsTake, is_fast, is_mark, is_take, is_busy, acquired, tried}
 use Rattle.rt_model.proofs.events.Release.{IsRelease, is_free, is_give, released}
 use Rattle.rt_model.proofs.events.Wait.{IsWaiting, is_wait, is_again, is_leave, slowed, woken_up}
 use Rattle.rt_model.proofs.events.Walk.{IsWalking, is_walk, is_walkend, walked, IsConfirmed, is_restart, is_cycle, confirmed}
-use Rattle.rt_model.proofs.events.Wakeups.{IsSignal, IsSetPrio}
+use Rattle.rt_model.proofs.events.Wakeups.{IsWakeup, is_state, is_sched, is_wake, is_signal, scheduled, IsSetPrio}
 
 -- one constructor a family
 pub data IsNext (s : State) (t : TaskId) (e : Event) : Type 0 where
@@ -38,7 +38,7 @@ pub data IsNext (s : State) (t : TaskId) (e : Event) : Type 0 where
   by_release : (l : LockId) → IsRelease s t l e → IsNext s t e
   by_walk : (route : Route) (u : TaskId) → IsWalking s t route u e → IsNext s t e
   by_confirm : (l : LockId) (path : List (ℕ × ℕ)) → IsConfirmed s t l path e → IsNext s t e
-  by_signal : (u : TaskId) → IsSignal s t u e → IsNext s t e
+  by_wakeup : IsWakeup s t e → IsNext s t e
   by_setprio : (u : TaskId) (prio : ℕ) → IsSetPrio s t u prio e → IsNext s t e
 
 first_next : (s : State) (t : TaskId) (call : Call) (e : Event) → IsIn s t phases.Start call → IsServed (length s.threads) (length s.locks) call → own_answer (thread_part s t) call ≡ None → first_event (shared s) t (thread_part s t) call ≡ Some e → IsNext s t e
@@ -46,10 +46,25 @@ first_next s t (calls.Lock l) e at served none is =
     let same : acquire_event t l (owner_part s l) ≡ e = cc in by_acquire l (acquired s t l e (record { call = calls.Lock l; waits_for = by_lock refl; at = at }) (not_held _ _ none) same)
 first_next s t (calls.LockInt l) e at served none is =
     let same : acquire_event t l (owner_part s l) ≡ e = cc in by_acquire l (acquired s t l e (record { call = calls.LockInt l; waits_for = by_lockint refl; at = at }) (not_held _ _ none) same)
-first_next s t (calls.Signal u) e at served none is = by_signal u (record { at = at; event = let same : signal_event t u (task_part s u) ≡ e = cc in sym same })
-first_next s t (calls.TryLock l) e at served none is = let same : try_event t l (kind_of (thread_part s t) l) (owner_part s l) (task_part s t) ≡ e = cc in by_acquire l (tried s t l e at same)
+first_next s t (calls.Spin l) e at served none is =
+    let same : acquire_event t l (owner_part s l) ≡ e = cc in by_acquire l (acquired s t l e (record { call = calls.Spin l; waits_for = by_spin refl; at = at }) (unheld _ none) same)
+first_next s t (calls.TryLock l) e at served none is =
+    let same : try_event t l (kind_of (thread_part s t) l) (owner_part s l) (task_part s t) ≡ e = cc in
+    by_acquire l (tried s t l e (record { call = calls.TryLock l; tries_for = by_trylock refl; at = at; lock = served }) same)
+first_next s t (calls.TrySpin l) e at served none is =
+    let same : try_event t l (kind_of (thread_part s t) l) (owner_part s l) (task_part s t) ≡ e = cc in
+    by_acquire l (tried s t l e (record { call = calls.TrySpin l; tries_for = by_tryspin refl; at = at; lock = served }) same)
+first_next s t (calls.State state) e at served none is = by_wakeup (is_state state (record { at = at; event = let same : state_event t state ≡ e = cc in sym same }))
+first_next s t calls.Schedule e at served none is = by_wakeup (scheduled s t e at is)
+first_next s t (calls.Wake u) e at served none is = by_wakeup (is_wake u (record { at = at; event = let same : wake_event t u (task_part s u) ≡ e = cc in sym same }))
+first_next s t (calls.Signal u) e at served none is = by_wakeup (is_signal u (record { at = at; event = let same : signal_event t u (task_part s u) ≡ e = cc in sym same }))
 first_next s t (calls.SetPrio u prio) e at served none is = by_setprio u prio (record { at = at; event = let same : setprio_event t u prio (task_part s u) ≡ e = cc in sym same })
-first_next s t (calls.Unlock l) e at served none is = let same : release_event t l (owner_part s l) (task_part s t) ≡ e = cc in by_release l (released s t l e at (was_held _ none) same)
+first_next s t (calls.Unlock l) e at served none is =
+    let same : release_event t l (owner_part s l) (task_part s t) ≡ e = cc in
+    by_release l (released s t l e (record { call = calls.Unlock l; releases = by_unlock refl; at = at; lock = served }) (was_held _ none) same)
+first_next s t (calls.Unspin l) e at served none is =
+    let same : release_event t l (owner_part s l) (task_part s t) ≡ e = cc in
+    by_release l (released s t l e (record { call = calls.Unspin l; releases = by_unspin refl; at = at; lock = served }) (was_held _ none) same)
 first_next s t _ e at served none is = absurd served
 
 started : (s : State) (t : TaskId) (call : Call) (e : Event) (answer : Option Reply) → IsIn s t phases.Start call → IsServed (length s.threads) (length s.locks) call → own_answer (thread_part s t) call ≡ answer
@@ -113,5 +128,8 @@ task-IsNext s t e (by_walk route u (is_walk l key is)) = ap (λ (x : Event). x.t
 task-IsNext s t e (by_walk route u (is_walkend is)) = ap (λ (x : Event). x.task) is.event
 task-IsNext s t e (by_confirm l path (is_restart link is)) = ap (λ (x : Event). x.task) is.event
 task-IsNext s t e (by_confirm l path (is_cycle is)) = ap (λ (x : Event). x.task) is.event
-task-IsNext s t e (by_signal u is) = ap (λ (x : Event). x.task) is.event
+task-IsNext s t e (by_wakeup (is_state state is)) = ap (λ (x : Event). x.task) is.event
+task-IsNext s t e (by_wakeup (is_sched is)) = ap (λ (x : Event). x.task) is.event
+task-IsNext s t e (by_wakeup (is_wake u is)) = ap (λ (x : Event). x.task) is.event
+task-IsNext s t e (by_wakeup (is_signal u is)) = ap (λ (x : Event). x.task) is.event
 task-IsNext s t e (by_setprio u prio is) = ap (λ (x : Event). x.task) is.event

@@ -154,6 +154,8 @@ own-slot kinds.Again e th found lock = inl refl
 own-slot kinds.Leave e th found lock = inl refl
 own-slot kinds.Cycle e th found lock = inl refl
 own-slot kinds.Give e th found lock = inl refl
+own-slot kinds.State e th found lock = inl refl
+own-slot kinds.Sched e th found lock = inl refl
 own-slot _ e th found lock = inr (λ task. refl)
 
 -- so what the other slots keep is kept of every other task

@@ -9,11 +9,12 @@ use Rattle.rt_base.specs.declared.id.LockId.{LockId}
 use Rattle.rt_base.specs.declared.id.TaskId.{TaskId}
 use Rattle.rt_base.specs.declared.kind.Kind.{Kind}
 use Rattle.rt_model.specs.declared.row.Row.{Row}
-use Rattle.rt_model.specs.Rows.{top_waiter, top_key, better_of, is_of, row_of, queued_key, goes_before, insert_row, without, has_rows, same_row, same_top, top_changed, can_take, asked_key, reason_among, reason_before}
+use Rattle.rt_model.specs.Rows.{top_waiter, top_key, task_of, better_of, is_of, row_of, queued_key, goes_before, insert_row, without, has_rows, same_row, same_top, top_changed, can_take, asked_key, reason_among, reason_before}
 use Rattle.rt_model.specs.laws.Rows.{IsAhead, IsQueue}
 use Rattle.rt_model.specs.Parts.{OwnerPart, TaskPart, effective_of}
 use Rattle.rt_model.specs.steps.Lock.{requeued}
 use Rattle.rt_model.specs.steps.Chain.{has_old_key, requeued_where_old}
+use Rattle.rt_model.proofs.Lists.{All-both}
 use Rattle.rt_model.proofs.Numbers.{other_number, number_itself}
 use Rattle.rt_model.proofs.CellStepLemmas.{right_key}
 use Rattle.rt_model.specs.declared.reason.Reason.{Reason}
@@ -101,6 +102,17 @@ row_of-without t (row ∷ rows) =
 
 not_both : (t u : TaskId) (row : Row) → nat_eq t.0 u.0 ≡ false → is_of t row ≡ true → is_of u row ≡ false
 not_both t u row ne is = grind (arith, nat_tests)
+
+other_who : (row other : Row) → row.who ≢ other.who → is_of (task_of other) row ≡ false
+other_who row other ne = grind (arith, nat_tests)
+
+-- each row is the one with which its task is queued
+pub own-row : (rows : List Row) → AllPairs IsAhead rows → All (λ (row : Row). queued_key (task_of row) rows ≡ Some row.key) rows
+own-row [] order = All-nil (λ (row : Row). queued_key (task_of row) [] ≡ Some row.key)
+own-row (first ∷ rows) order =
+    All-cons (λ (row : Row). queued_key (task_of row) (first ∷ rows) ≡ Some row.key) first rows (rw (number_itself first.who) refl)
+    (All-both (IsAhead first) (λ (row : Row). queued_key (task_of row) rows ≡ Some row.key) (λ (row : Row). queued_key (task_of row) (first ∷ rows) ≡ Some row.key)
+    (λ row ahead is. rw (other_who first row ahead.task) is) rows (AllPairs-head IsAhead first rows order) (own-row rows (AllPairs-tail IsAhead first rows order)))
 
 -- any other task has the row that it had
 pub row_of-without_other : (t u : TaskId) (rows : List Row) → nat_eq t.0 u.0 ≡ false → row_of u (without t rows) ≡ row_of u rows

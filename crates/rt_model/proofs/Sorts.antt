@@ -7,10 +7,11 @@ use Rattle.rt_model.specs.declared.event_kind.EventKind.{EventKind}
 use Rattle.rt_model.specs.declared.event_kind.EventKind.TheVariants as kinds
 use Rattle.rt_model.specs.State.{State}
 use Rattle.rt_model.specs.Path.{Link}
-use Rattle.rt_model.proofs.NextEvents.{IsNext, by_own, by_acquire, by_wait, by_release, by_walk, by_confirm, by_signal, by_setprio}
+use Rattle.rt_model.proofs.NextEvents.{IsNext, by_own, by_acquire, by_wait, by_release, by_walk, by_confirm, by_wakeup, by_setprio}
 use Rattle.rt_model.proofs.events.Acquire.{is_fast, is_mark, is_take, is_busy}
 use Rattle.rt_model.proofs.events.Release.{is_free, is_give}
 use Rattle.rt_model.proofs.events.Wait.{IsLeave, is_wait, is_again, is_leave}
+use Rattle.rt_model.proofs.events.Wakeups.{is_state, is_sched, is_wake, is_signal}
 use Rattle.rt_model.proofs.events.Walk.{is_walk, is_walkend, IsRestart, IsCycleEvent, is_restart, is_cycle}
 
 -- an event of this kind is one of these
@@ -44,5 +45,8 @@ sort s t e (by_walk route u (is_walk l key is)) = unsorted (sorts e _ is.event r
 sort s t e (by_walk route u (is_walkend is)) = unsorted (sorts e _ is.event refl)
 sort s t e (by_confirm l path (is_restart link is)) = begins l path link is
 sort s t e (by_confirm l path (is_cycle is)) = breaks l path is
-sort s t e (by_signal u is) = unsorted (sorts e _ is.event refl)
+sort s t e (by_wakeup (is_state state is)) = unsorted (sorts e _ is.event refl)
+sort s t e (by_wakeup (is_sched is)) = unsorted (sorts e _ is.event refl)
+sort s t e (by_wakeup (is_wake u is)) = unsorted (sorts e _ is.event refl)
+sort s t e (by_wakeup (is_signal u is)) = unsorted (sorts e _ is.event refl)
 sort s t e (by_setprio u prio is) = unsorted (sorts e _ is.event refl)

@@ -1,21 +1,21 @@
 -- The start state of a script is lawful.
 use Rattle.std.proofs.lemmas.List.{length-map, length-replicate}
 use Rattle.std.proofs.lemmas.List.Folds.{fold-map}
-use Rattle.std.proofs.Common.{◌≡◌, ◌≢◌, inl, inr, ℕ, ◌+◌, ◌<◌, ◌≤◌, true, false, cond, List, [], ◌∷◌, length, refl, sym, ap, ◌∙◌, subst, arith, Option, None, All, IfSome}
-use Rattle.std.specs.Prelude.{option_map, is_some}
+use Rattle.std.proofs.Common.{◌≡◌, inl, inr, ℕ, ◌+◌, ◌<◌, ◌≤◌, true, false, cond, List, [], ◌∷◌, length, refl, sym, ap, ◌∙◌, subst, arith, Option, Some, None, All, IfSome}
+use Rattle.std.specs.Prelude.{slice_get, option_map, is_some}
 use Rattle.std.proofs.lemmas.List.Elements.{All-nil, All-head, All-map, All-replicate}
 use Rattle.std.proofs.lemmas.List.Sums.{get_or-le-sum_by}
-use Rattle.std.proofs.lemmas.Option.{slice_get_cases}
-use Rattle.rt_base.specs.Script.{Script, TaskLine, LockLine, all_calls, IsScript, IsTaskOf, IsCallOf}
+use Rattle.std.proofs.lemmas.Option.{slice_get_cases, slice_get-map}
+use Rattle.rt_base.specs.Script.{Script, TaskLine, LockLine, all_calls, IsLockOf, IsMutex, IsSpin, IsScript, IsTaskOf, IsCallOf}
 use Rattle.rt_base.specs.declared.call.Call.{Call}
 use Rattle.rt_base.specs.declared.call.Call.TheVariants as calls
 use Rattle.rt_base.specs.declared.id.Cpu.{Cpu}
 use Rattle.rt_base.specs.declared.id.LockId.{LockId}
 use Rattle.rt_base.specs.declared.id.TaskId.{TaskId}
 use Rattle.rt_base.specs.declared.kind.Kind.{Kind}
-use Rattle.rt_base.specs.declared.kind.Kind.TheVariants.{Mutex}
+use Rattle.rt_base.specs.declared.kind.Kind.TheVariants as kinds
 use Rattle.rt_base.specs.declared.limits.TheConstants.{MAX_PRIO}
-use Rattle.rt_base.specs.declared.state.TaskState.TheVariants.{Running, LockWait}
+use Rattle.rt_base.specs.declared.state.TaskState.TheVariants.{Running}
 use Rattle.rt_model.specs.declared.hold.Hold.{Hold}
 use Rattle.rt_model.specs.declared.phase.Phase.{Phase}
 use Rattle.rt_model.specs.declared.phase.Phase.TheVariants as phases
@@ -23,43 +23,75 @@ use Rattle.rt_model.specs.declared.row.Row.{Row}
 use Rattle.rt_model.specs.Parts.{OwnerPart, TaskPart, ThreadPart, effective_of, call_of, hold_of}
 use Rattle.rt_model.specs.Rows.{top_waiter, top_key, task_of, queued_key}
 use Rattle.rt_model.specs.State.{start, free_lock, fresh_task, fresh_thread, no_readers, kinds_in, owner_part, task_part, thread_part}
-use Rattle.rt_model.specs.Stage.{IsPlayed, IsPlayable, IsServed, IsStaged, IsPhaseOf}
+use Rattle.rt_model.specs.Stage.{IsPlayed, IsPlayable, IsServed, IsForKind, IsStaged, IsPhaseOf}
 use Rattle.rt_model.specs.Path.{Link, links_to, Edge, IsCycle}
 use Rattle.rt_model.specs.laws.Shape.{IsShaped, IsOf}
 use Rattle.rt_model.specs.laws.Rows.{IsQueue, RowsLaw, key_at}
 use Rattle.rt_model.specs.laws.KeptTops.{kept_of}
 use Rattle.rt_model.specs.laws.Owners.{owned_by}
+use Rattle.rt_model.specs.laws.Migration.{pins, pinned, MigrationLaw}
+use Rattle.rt_model.specs.laws.States.{waits_spinning, IsRested}
 use Rattle.rt_model.specs.laws.Queued.{QueuedLaw, present_lock, awaited_in, asked_in}
 use Rattle.rt_model.specs.laws.Walks.{IsWalkOf}
 use Rattle.rt_model.specs.laws.OwnPriorities.{OwnPrioritiesLaw}
 use Rattle.rt_model.specs.laws.Responsible.{ResponsibleLaw}
 use Rattle.rt_model.specs.laws.Lawful.{IsLawful}
+use Rattle.rt_model.proofs.Holds.{count-none}
 use Rattle.rt_model.proofs.Lists.{All-read, map-map, All-both, All-made, read-replicate}
 use Rattle.rt_model.proofs.Within.{HoldsFit}
-use Rattle.rt_model.proofs.laws.Shape.{OwnerIn, RowsIn, KeptFits, KindsFit, AreServed, AreMutexes}
+use Rattle.rt_model.proofs.laws.Shape.{OwnerIn, RowsIn, KeptFits, KindsFit, AreServed, AreFit, KnowsKinds}
 
 -- ---- the script
 
--- a mutex that a call of a script names is there
-lock_within : (script : Script) (l : LockId) → IsCallOf script (calls.Lock l) → l.0 < length script.locks
-lock_within script l is = elim (slice_get_cases script.locks l.0).1 [ inl here ↦ here.1 | inr past ↦ absurd (rw past.1 at is) ]
+-- a lock that a call of a script names is there
+lock_within : (script : Script) (fits : LockLine → Type 0) (l : LockId) → IsLockOf script fits l → l.0 < length script.locks
+lock_within script fits l is = elim (slice_get_cases script.locks l.0).1 [ inl here ↦ here.1 | inr past ↦ absurd (rw past.1 at is) ]
 
 -- a call of a script that is played is served
 served_in : (script : Script) (call : Call) → IsCallOf script call → IsPlayed call → IsServed (length script.tasks) (length script.locks) call
-served_in script (calls.Lock l) is played = lock_within script l is
-served_in script (calls.LockInt l) is played = lock_within script l is
-served_in script (calls.TryLock l) is played = lock_within script l is
-served_in script (calls.Unlock l) is played = lock_within script l is
+served_in script (calls.Lock l) is played = lock_within script IsMutex l is
+served_in script (calls.LockInt l) is played = lock_within script IsMutex l is
+served_in script (calls.TryLock l) is played = lock_within script IsMutex l is
+served_in script (calls.Unlock l) is played = lock_within script IsMutex l is
+served_in script (calls.Spin l) is played = lock_within script IsSpin l is
+served_in script (calls.TrySpin l) is played = lock_within script IsSpin l is
+served_in script (calls.Unspin l) is played = lock_within script IsSpin l is
+served_in script (calls.State state) is played = is
+served_in script calls.Schedule is played = is
+served_in script (calls.Wake t) is played = is
 served_in script (calls.Signal t) is played = is
 served_in script (calls.SetPrio t prio) is played = is
 served_in script _ is played = absurd played
 
+-- what holds of the calls of a script that is played, of each task
+each_call : (script : Script) (P : Call → Type 0) → ((call : Call) → IsCallOf script call → IsPlayed call → P call) → IsScript script → IsPlayable script → All (λ (line : TaskLine). All P line.calls) script.tasks
+each_call script P holds valid playable =
+    All-both (IsTaskOf script) (λ (line : TaskLine). All IsPlayed line.calls) (λ (line : TaskLine). All P line.calls)
+    (λ line task all. All-both (IsCallOf script) IsPlayed P holds line.calls task.calls all) script.tasks valid.each_task playable.calls
+
 -- the calls of each task are served
 pub served_calls : (script : Script) → IsScript script → IsPlayable script → All (λ (line : TaskLine). All (IsServed (length script.tasks) (length script.locks)) line.calls) script.tasks
-served_calls script valid mutexes =
-    let Served : Call → Type 0 = IsServed (length script.tasks) (length script.locks) in
-    All-both (IsTaskOf script) (λ (line : TaskLine). All IsPlayed line.calls) (λ (line : TaskLine). All Served line.calls)
-    (λ line task all. All-both (IsCallOf script) IsPlayed Served (served_in script) line.calls task.calls all) script.tasks valid.each_task mutexes.calls
+served_calls script valid playable = each_call script (IsServed (length script.tasks) (length script.locks)) (served_in script) valid playable
+
+-- the kind of a lock that a call of a script names
+kind_within : (script : Script) (kind : Kind) (l : LockId) → IsLockOf script (λ line. line.kind ≡ kind) l → slice_get (kinds_in script) l.0 ≡ Some kind
+kind_within script kind l is = elim (slice_get_cases script.locks l.0).1 [
+  | inl here ↦
+      let fits : here.0.kind ≡ kind = rw here.2 at is in
+      slice_get-map (λ (line : LockLine). line.kind) script.locks l.0 ∙ (ap (option_map (λ (line : LockLine). line.kind)) here.2 ∙ ap Some fits)
+  | inr past ↦ absurd (rw past.1 at is)
+]
+
+-- each call is one that its lock's kind has
+fit_in : (script : Script) (call : Call) → IsCallOf script call → IsPlayed call → IsForKind (kinds_in script) call
+fit_in script (calls.Lock l) is played = kind_within script kinds.Mutex l is
+fit_in script (calls.LockInt l) is played = kind_within script kinds.Mutex l is
+fit_in script (calls.TryLock l) is played = kind_within script kinds.Mutex l is
+fit_in script (calls.Unlock l) is played = kind_within script kinds.Mutex l is
+fit_in script (calls.Spin l) is played = kind_within script kinds.Spin l is
+fit_in script (calls.TrySpin l) is played = kind_within script kinds.Spin l is
+fit_in script (calls.Unspin l) is played = kind_within script kinds.Spin l is
+fit_in script _ is played = tt
 
 -- a task makes no more calls than all tasks together
 pub calls_within : (script : Script) → All (λ (line : TaskLine). length line.calls ≤ all_calls script) script.tasks
@@ -94,6 +126,8 @@ IsShaped-start script valid =
       tasks = length-map script.tasks (λ (line : TaskLine). fresh_task n line.own) ∙ sym threads;
       kept = rw locks (All-made (KeptFits n) (λ (line : TaskLine). fresh_task n line.own) (λ line. length-replicate n None) script.tasks);
       kinds = rw locks (All-made (KindsFit n) fresh (λ line. kinds) script.tasks);
+      known = kinds_in script;
+      alike = All-made (KnowsKinds (kinds_in script)) fresh (λ line. refl) script.tasks;
       holds = rw locks (All-made (HoldsFit n) fresh (λ line. length-replicate (length (kinds_in script)) _ ∙ kinds) script.tasks);
       owners = All-replicate (OwnerIn (length (start script).threads)) n free_lock tt;
       rows = All-replicate (RowsIn (length (start script).threads)) n free_lock (All-nil (λ (row : Row). row.who < length (start script).threads));
@@ -101,14 +135,14 @@ IsShaped-start script valid =
 
 -- it goes as far as the stage goes
 pub IsStaged-start : (script : Script) → IsScript script → IsPlayable script → IsStaged (start script)
-IsStaged-start script valid mutexes =
+IsStaged-start script valid playable =
     let n = length script.locks in
     let fresh : TaskLine → ThreadPart = λ line. fresh_thread (kinds_in script) line.calls line.cpu in
     let locks : length (start script).locks ≡ n = length-replicate n free_lock in
     let threads : length (start script).threads ≡ length script.tasks = length-map script.tasks fresh in
     record {
-      mutexes = All-made AreMutexes fresh (λ line. All-map (λ (kind : Kind). kind ≡ Mutex) (λ (lock : LockLine). lock.kind) script.locks mutexes.locks) script.tasks;
-      served = subst (λ (m : ℕ). All (AreServed m (length (start script).locks)) (start script).threads) (sym threads) (rw locks (All-map (AreServed (length script.tasks) n) fresh script.tasks (served_calls script valid mutexes)));
+      served = subst (λ (m : ℕ). All (AreServed m (length (start script).locks)) (start script).threads) (sym threads) (rw locks (All-map (AreServed (length script.tasks) n) fresh script.tasks (served_calls script valid playable)));
+      fit = All-map AreFit fresh script.tasks (each_call script (IsForKind (kinds_in script)) (fit_in script) valid playable);
     }
 
 -- ---- the laws of the start state
@@ -142,6 +176,16 @@ module _ (script : Script) where
   unheld-start l t =
       each_thread (λ thread. (hold_of thread l).owns ≡ false) t
       (λ kinds cs cpu. ap (λ (hold : Hold). hold.owns) (read-replicate (length kinds) l.0 (record { owns = false; reads = 0 })))
+
+  -- what is held pins nothing
+  MigrationLaw-start : MigrationLaw (start script)
+  MigrationLaw-start t =
+      each_thread (λ thread. thread.migration ≡ pinned thread) t
+      (λ kinds cs cpu. sym (count-none pins kinds (length kinds) (record { owns = false; reads = 0 }) unpinned))
+    where
+      unpinned : (kind : Kind) → pins kind (record { owns = false; reads = 0 }) ≡ 0
+      unpinned kinds.Spin = refl
+      unpinned _ = refl
 
   RowsLaw-start : RowsLaw (start script) 0
   RowsLaw-start = record {
@@ -179,18 +223,16 @@ module _ (script : Script) where
 
 -- the start state is lawful
 pub IsLawful-start : (script : Script) → IsScript script → IsPlayable script → IsLawful (start script) 0
-IsLawful-start script valid mutexes = record {
+IsLawful-start script valid playable = record {
   shape = IsShaped-start script valid;
-  stage = IsStaged-start script valid mutexes;
+  stage = IsStaged-start script valid playable;
   phases = λ t. each_thread script (λ thread. IsPhaseOf thread.phase (call_of thread)) t (λ kinds cs cpu. tt);
   rows = RowsLaw-start script;
   kept = λ l t. each_task script (λ task. kept_of task l ≡ None) t (λ n own. read-replicate n l.0 None) ∙ sym (ap (λ (lock : OwnerPart). cond (owned_by lock.owner t) (top_key lock.rows) None) (lock-start script l));
   queued = QueuedLaw-start script;
   owners = λ l t. unheld-start script l t ∙ sym (ap (λ (o : Option TaskId). owned_by o t) (owner-start script l));
-  states = record {
-    state = λ t. each_task script (λ task. task.state ≢ LockWait) t (λ n own is. cc);
-    saved = λ t. each_task script (λ task. task.saved ≡ Running) t (λ n own. refl);
-  };
+  migration = MigrationLaw-start script;
+  states = λ t. each_task script (λ task. IsRested (waits_spinning (thread_part (start script) t) task) task) t (λ n own. (λ is. cc, refl));
   awake = λ l free. subst (λ (rows : List Row). IfSome (top_waiter rows) (λ row. (task_part (start script) (task_of row)).state ≡ Running)) (sym (rows-start script l)) tt;
   keys = λ t apart. subst (λ (b : Option (LockId × ℕ)). IfSome b (λ at. at.1 ≡ effective_of (task_part (start script) t))) (sym (blocked-start script t)) tt;
   walks = λ t. subst (IsWalkOf (length (start script).threads) (length (start script).locks) t (present_lock (thread_part (start script) t))) (sym (phase-start script t)) tt;

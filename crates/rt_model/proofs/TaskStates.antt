@@ -1,95 +1,230 @@
--- What an event keeps of a task's state, where none is saved.
-use Rattle.std.proofs.Common.{◌≡◌, ℕ, zero, suc, Bool, true, false, cond, refl, sym, subst, Option, Some, None}
-use Rattle.std.specs.Prelude.{is_some}
+-- What an event keeps of a task's state and of what is saved.
+use Rattle.std.proofs.Common.{◌≡◌, ◌≢◌, ◌⊎◌, inl, inr, ℕ, zero, suc, ◌<◌, Bool, true, false, cond, ◌&&◌, List, length, refl, sym, ap, ◌∙◌, Option, Some, None, unwrap_or}
+use Rattle.std.specs.Prelude.{is_some, nat_eq, slice_get}
 use Rattle.std.proofs.lemmas.Bool.{cond_both}
 use Rattle.rt_base.specs.Kind.{spins}
+use Rattle.rt_base.specs.declared.call.Call.{Call}
+use Rattle.rt_base.specs.declared.call.Call.TheVariants as calls
 use Rattle.rt_base.specs.declared.id.LockId.{LockId}
+use Rattle.rt_base.specs.declared.id.TaskId.{TaskId}
+use Rattle.rt_base.specs.declared.kind.Kind.{Kind}
+use Rattle.rt_base.specs.declared.kind.Kind.TheVariants.{Mutex}
 use Rattle.rt_base.specs.declared.state.TaskState.{TaskState}
 use Rattle.rt_base.specs.declared.state.TaskState.TheVariants as states
 use Rattle.rt_model.specs.declared.event.Event.{Event}
 use Rattle.rt_model.specs.declared.event_kind.EventKind.{EventKind}
 use Rattle.rt_model.specs.declared.event_kind.EventKind.TheVariants as kinds
-use Rattle.rt_model.specs.Parts.{OwnerPart, TaskPart, ThreadPart, kind_named}
+use Rattle.rt_model.specs.Parts.{OwnerPart, TaskPart, ThreadPart, kind_of, kind_named}
 use Rattle.rt_model.specs.Rows.{top_key}
-use Rattle.rt_model.specs.steps.Task.{with_top, restored, leave_queue, sleeps, is_interruptible, woken_up, woken_by, lock_state_woken, lock_woken}
+use Rattle.rt_model.specs.State.{State, task_part, thread_part}
+use Rattle.rt_model.specs.steps.Task.{with_top, sleep_of, saved_for, restored, leave_queue, sleeps, is_interruptible, woken_up, woken_by, lock_state_woken, lock_woken, state_numbered}
 use Rattle.rt_model.specs.Effect.{Around}
 use Rattle.rt_model.specs.Rules.{effect}
+use Rattle.rt_model.specs.laws.Shape.{IsShaped}
+use Rattle.rt_model.specs.laws.States.{spins_at, waits_spinning, IsRested}
 use Rattle.rt_model.proofs.CellStepLemmas.{where_changed}
+use Rattle.rt_model.proofs.Lists.{All-default}
 use Rattle.rt_model.proofs.PartsAfter.{OthersKeep}
+use Rattle.rt_model.proofs.Waiters.{blocking}
 
--- the state is as P says, and none is saved
-pub record HasState (P : TaskState → Type 0) (task : TaskPart) : Type 0 where
-  pub state : P task.state
-  pub saved : task.saved ≡ states.Running
+-- the state, and what is saved, are as P says
+abbrev pub HasStates : (TaskState → TaskState → Type 0) → TaskPart → Type 0
+HasStates P task = P task.state task.saved
 
--- an event of this kind sends its own task to sleep
-abbrev pub sends_to_sleep : EventKind → Bool
-sends_to_sleep kinds.Wait = true
-sends_to_sleep kinds.Again = true
-sends_to_sleep _ = false
+-- an event of this kind can leave its own task in another state than the running one: it goes to rest, what was saved is
+-- restored, or it sets its state
+abbrev pub can_sleep : EventKind → Bool
+can_sleep kinds.Wait = true
+can_sleep kinds.Again = true
+can_sleep kinds.Take = true
+can_sleep kinds.Leave = true
+can_sleep kinds.Cycle = true
+can_sleep kinds.State = true
+can_sleep _ = false
 
--- a P that holds of Running
-module _ (P : TaskState → Type 0) (runs : P states.Running) where
-  state-with_top : (l : Option LockId) (top : Option ℕ) (task : TaskPart) → HasState P task → HasState P (with_top l top task)
-  state-with_top None top task was = was
-  state-with_top (Some l) top task was = record { state = was.state; saved = was.saved }
+-- a P that holds on where a task is set running, and where nothing is saved any more
+module _ (P : TaskState → TaskState → Type 0) (runs : (state saved : TaskState) → P state saved → P states.Running saved) (unsaved : (state saved : TaskState) → P state saved → P state states.Running) where
+  states-with_top : (l : Option LockId) (top : Option ℕ) (task : TaskPart) → HasStates P task → HasStates P (with_top l top task)
+  states-with_top None top task was = was
+  states-with_top (Some l) top task was = was
 
-  state-restored : (spinning : Bool) (task : TaskPart) → HasState P task → HasState P (restored spinning task)
-  state-restored true task was = record { state = subst P (sym was.saved) runs; saved = refl }
-  state-restored false task was = record { state = runs; saved = was.saved }
+  states-woken_up : (task : TaskPart) → HasStates P task → HasStates P (woken_up task)
+  states-woken_up task was =
+      cond_both (sleeps task.state) (record task { state = states.Running }) (cond (sleeps task.saved) (record task { saved = states.Running }) task) (HasStates P)
+      (λ is. runs task.state task.saved was)
+      (λ is. cond_both (sleeps task.saved) (record task { saved = states.Running }) task (HasStates P) (λ saved. unsaved task.state task.saved was) (λ not_saved. was))
 
-  state-leave_queue : (spinning : Bool) (task : TaskPart) → HasState P task → HasState P (leave_queue spinning task)
-  state-leave_queue spinning task was =
-      let rested = state-restored spinning task was in
-      cond_both (is_some task.blocked) (record (restored spinning task) { blocked = None }) task (HasState P)
-      (λ is. record { state = rested.state; saved = rested.saved }) (λ is. was)
+  states-woken_by : (n : ℕ) (task : TaskPart) → HasStates P task → HasStates P (woken_by n task)
+  states-woken_by zero task was = states-woken_up task was
+  states-woken_by (suc n) task was =
+      cond_both (is_interruptible task.state) (record task { signal = true; state = states.Running }) (cond (is_interruptible task.saved) (record task { signal = true; saved = states.Running }) (record task { signal = true })) (HasStates P)
+      (λ is. runs task.state task.saved was)
+      (λ is. cond_both (is_interruptible task.saved) (record task { signal = true; saved = states.Running }) (record task { signal = true }) (HasStates P) (λ saved. unsaved task.state task.saved was) (λ not_saved. was))
 
-  state-woken_up : (task : TaskPart) → HasState P task → HasState P (woken_up task)
-  state-woken_up task was =
-      cond_both (sleeps task.state) (record task { state = states.Running }) (cond (sleeps task.saved) (record task { saved = states.Running }) task) (HasState P)
-      (λ is. record { state = runs; saved = was.saved })
-      (λ is. cond_both (sleeps task.saved) (record task { saved = states.Running }) task (HasState P) (λ saved. record { state = was.state; saved = refl }) (λ not_saved. was))
+  lock_state : (state saved : TaskState) → P state saved → P (lock_state_woken state) saved
+  lock_state states.LockWait saved was = runs states.LockWait saved was
+  lock_state states.Running saved was = was
+  lock_state states.Interruptible saved was = was
+  lock_state states.Uninterruptible saved was = was
 
-  state-woken_by : (n : ℕ) (task : TaskPart) → HasState P task → HasState P (woken_by n task)
-  state-woken_by zero task was = state-woken_up task was
-  state-woken_by (suc n) task was =
-      cond_both (is_interruptible task.state) (record task { signal = true; state = states.Running }) (cond (is_interruptible task.saved) (record task { signal = true; saved = states.Running }) (record task { signal = true })) (HasState P)
-      (λ is. record { state = runs; saved = was.saved })
-      (λ is. cond_both (is_interruptible task.saved) (record task { signal = true; saved = states.Running }) (record task { signal = true }) (HasState P)
-      (λ saved. record { state = was.state; saved = refl }) (λ not_saved. record { state = was.state; saved = was.saved }))
+  states-lock_woken : (spinning : Bool) (task : TaskPart) → HasStates P task → HasStates P (lock_woken spinning task)
+  states-lock_woken true task was = lock_state task.state task.saved was
+  states-lock_woken false task was = states-woken_up task was
 
-  lock_state : (state : TaskState) → P state → P (lock_state_woken state)
-  lock_state states.LockWait is = runs
-  lock_state states.Running is = is
-  lock_state states.Interruptible is = is
-  lock_state states.Uninterruptible is = is
+  -- of its own task
+  pub states-own : (kind : EventKind) (e : Event) (th : ThreadPart) → can_sleep kind ≡ false → (found : Around) (lock : OwnerPart) (task : TaskPart) → HasStates P task → HasStates P ((effect kind e th found).own lock task)
+  states-own kinds.Wait e th is found lock task was = cc
+  states-own kinds.Again e th is found lock task was = cc
+  states-own kinds.Take e th is found lock task was = cc
+  states-own kinds.Leave e th is found lock task was = cc
+  states-own kinds.Cycle e th is found lock task was = cc
+  states-own kinds.State e th is found lock task was = cc
+  states-own kinds.Sched e th is found lock task was = runs task.state task.saved was
+  states-own kinds.Give e th is found lock task was = states-with_top e.lock None task was
+  states-own _ e th is found lock task was = was
 
-  state-lock_woken : (spinning : Bool) (task : TaskPart) → HasState P task → HasState P (lock_woken spinning task)
-  state-lock_woken true task was = record { state = lock_state task.state was.state; saved = was.saved }
-  state-lock_woken false task was = state-woken_up task was
-
-  pub state-own : (kind : EventKind) (e : Event) (th : ThreadPart) → sends_to_sleep kind ≡ false → (found : Around) (lock : OwnerPart) (task : TaskPart) → HasState P task → HasState P ((effect kind e th found).own lock task)
-  state-own kinds.Wait e th is found lock task was = cc
-  state-own kinds.Again e th is found lock task was = cc
-  state-own kinds.Take e th is found lock task was =
-      let spinning : Bool = spins (kind_named th e.lock) in
-      state-with_top e.lock (top_key lock.rows) (leave_queue spinning task) (state-leave_queue spinning task was)
-  state-own kinds.Leave e th is found lock task was =
-      let left = state-leave_queue (spins (kind_named th e.lock)) task was in record { state = left.state; saved = left.saved }
-  state-own kinds.Cycle e th is found lock task was = state-leave_queue (spins (kind_named th e.lock)) task was
-  state-own kinds.Give e th is found lock task was = state-with_top e.lock None task was
-  state-own _ e th is found lock task was = was
-
-  pub state-others : (kind : EventKind) (e : Event) (th : ThreadPart) (found : Around) (lock : OwnerPart) → OthersKeep (HasState P) (effect kind e th found) lock
-  state-others kinds.Wait e th found lock = record { owner = state-with_top e.lock (top_key lock.rows); other = λ task was. was; woken = λ task was. was }
-  state-others kinds.Leave e th found lock = record { owner = state-with_top e.lock (top_key lock.rows); other = λ task was. was; woken = λ task was. was }
-  state-others kinds.Cycle e th found lock = record { owner = state-with_top e.lock (top_key lock.rows); other = λ task was. was; woken = λ task was. was }
-  state-others kinds.Wake e th found lock = record { owner = λ task was. was; other = state-woken_by e.value; woken = λ task was. was }
-  state-others kinds.Give e th found lock = record { owner = λ task was. was; other = λ task was. was; woken = state-lock_woken (spins (kind_named th e.lock)) }
-  state-others kinds.Walk e th found lock = record {
-    owner = λ task was. where_changed (HasState P) e.lock found.lock.rows lock.rows task was (state-with_top e.lock (top_key lock.rows) task was);
-    other = λ task was. record { state = was.state; saved = was.saved };
-    woken = state-lock_woken (spins (kind_named th e.lock));
+  -- and of the others, whatever its kind
+  pub states-others : (kind : EventKind) (e : Event) (th : ThreadPart) (found : Around) (lock : OwnerPart) → OthersKeep (HasStates P) (effect kind e th found) lock
+  states-others kinds.Wait e th found lock = record { owner = states-with_top e.lock (top_key lock.rows); other = λ task was. was; woken = λ task was. was }
+  states-others kinds.Leave e th found lock = record { owner = states-with_top e.lock (top_key lock.rows); other = λ task was. was; woken = λ task was. was }
+  states-others kinds.Cycle e th found lock = record { owner = states-with_top e.lock (top_key lock.rows); other = λ task was. was; woken = λ task was. was }
+  states-others kinds.Wake e th found lock = record { owner = λ task was. was; other = states-woken_by e.value; woken = λ task was. was }
+  states-others kinds.Give e th found lock = record { owner = λ task was. was; other = λ task was. was; woken = states-lock_woken (spins (kind_named th e.lock)) }
+  states-others kinds.Walk e th found lock = record {
+    owner = λ task was. where_changed (HasStates P) e.lock found.lock.rows lock.rows task was (states-with_top e.lock (top_key lock.rows) task was);
+    other = λ task was. was;
+    woken = states-lock_woken (spins (kind_named th e.lock));
   }
-  state-others kinds.SetPrio e th found lock = record { owner = λ task was. was; other = λ task was. record { state = was.state; saved = was.saved }; woken = λ task was. was }
-  state-others _ e th found lock = record { owner = λ task was. was; other = λ task was. was; woken = λ task was. was }
+  states-others _ e th found lock = record { owner = λ task was. was; other = λ task was. was; woken = λ task was. was }
+
+-- ---- a task that runs
+
+abbrev pub IsRunning : TaskState → TaskState → Type 0
+IsRunning state saved = state ≡ states.Running
+
+pub running-own : (kind : EventKind) (e : Event) (th : ThreadPart) → can_sleep kind ≡ false → (found : Around) (lock : OwnerPart) (task : TaskPart) → HasStates IsRunning task → HasStates IsRunning ((effect kind e th found).own lock task)
+running-own = states-own IsRunning (λ state saved was. refl) (λ state saved was. was)
+
+pub running-others : (kind : EventKind) (e : Event) (th : ThreadPart) (found : Around) (lock : OwnerPart) → OthersKeep (HasStates IsRunning) (effect kind e th found) lock
+running-others = states-others IsRunning (λ state saved was. refl) (λ state saved was. was)
+
+-- ---- a task that rests as it is to, where it waits for a spinning kind and where not
+
+-- the same of its two states alone
+abbrev pub AreRested : Bool → TaskState → TaskState → Type 0
+AreRested true state saved = ((state ≡ states.LockWait) ⊎ (state ≡ states.Running)) × (saved ≢ states.LockWait)
+AreRested false state saved = (state ≢ states.LockWait) × (saved ≡ states.Running)
+
+pub rested-states : (b : Bool) (task : TaskPart) → IsRested b task → HasStates (AreRested b) task
+rested-states true task is = is
+rested-states false task is = is
+
+pub states-rested : (b : Bool) (task : TaskPart) → HasStates (AreRested b) task → IsRested b task
+states-rested true task is = is
+states-rested false task is = is
+
+rested-runs : (b : Bool) (state saved : TaskState) → AreRested b state saved → AreRested b states.Running saved
+rested-runs true state saved is = (inr refl, is.1)
+rested-runs false state saved is = (λ same. cc, is.1)
+
+rested-unsaved : (b : Bool) (state saved : TaskState) → AreRested b state saved → AreRested b state states.Running
+rested-unsaved true state saved is = (is.0, λ same. cc)
+rested-unsaved false state saved is = (is.0, refl)
+
+pub rested-own : (b : Bool) (kind : EventKind) (e : Event) (th : ThreadPart) → can_sleep kind ≡ false
+    → (found : Around) (lock : OwnerPart) (task : TaskPart) → HasStates (AreRested b) task → HasStates (AreRested b) ((effect kind e th found).own lock task)
+rested-own b = states-own (AreRested b) (rested-runs b) (rested-unsaved b)
+
+pub rested-others : (b : Bool) (kind : EventKind) (e : Event) (th : ThreadPart) (found : Around) (lock : OwnerPart) → OthersKeep (HasStates (AreRested b)) (effect kind e th found) lock
+rested-others b = states-others (AreRested b) (rested-runs b) (rested-unsaved b)
+
+-- ---- a lock wakeup by the kind for which it waits leaves it running
+
+awake_state : (state : TaskState) → sleeps state ≡ false → state ≢ states.LockWait → state ≡ states.Running
+awake_state states.Running is ne = refl
+awake_state states.LockWait is ne = absurd (ne refl)
+awake_state states.Interruptible is ne = cc
+awake_state states.Uninterruptible is ne = cc
+
+woken_up-runs : (task : TaskPart) → task.state ≢ states.LockWait → HasStates IsRunning (woken_up task)
+woken_up-runs task ne =
+    cond_both (sleeps task.state) (record task { state = states.Running }) (cond (sleeps task.saved) (record task { saved = states.Running }) task) (HasStates IsRunning)
+    (λ is. refl)
+    (λ is. cond_both (sleeps task.saved) (record task { saved = states.Running }) task (HasStates IsRunning) (λ saved. awake_state task.state is ne) (λ not_saved. awake_state task.state is ne))
+
+pub lock_woken-runs : (spinning : Bool) (task : TaskPart) → HasStates (AreRested spinning) task → HasStates IsRunning (lock_woken spinning task)
+lock_woken-runs true task was = either was.0
+  where
+    either : (task.state ≡ states.LockWait) ⊎ (task.state ≡ states.Running) → lock_state_woken task.state ≡ states.Running
+    either (inl waits) = ap lock_state_woken waits
+    either (inr runs) = ap lock_state_woken runs
+lock_woken-runs false task was = woken_up-runs task was.0
+
+-- ---- what becomes of its own task where an event can leave it in another state
+
+-- an ordinary sleep isn't a wait for a spinning kind, and saves nothing
+sleeping : (call : Option Call) → sleep_of call ≢ states.LockWait
+sleeping (Some (calls.LockInt l)) is = cc
+sleeping _ is = cc
+
+unsaving : (call : Option Call) (task : TaskPart) → (saved_for (sleep_of call) task).saved ≡ task.saved
+unsaving (Some (calls.LockInt l)) task = refl
+unsaving _ task = refl
+
+-- it comes into a queue of a kind that spins, or of another, and goes to rest
+pub rested-blocked : (spinning : Bool) (call : Option Call) (task : TaskPart) → HasStates (AreRested false) task
+    → let rest = cond spinning states.LockWait (sleep_of call) in AreRested spinning rest (saved_for rest task).saved
+rested-blocked true call task was = (inl refl, was.0)
+rested-blocked false call task was = (sleeping call, unsaving call task ∙ was.1)
+
+-- there it goes to rest again
+pub rested-again : (spinning : Bool) (call : Option Call) (task : TaskPart) → HasStates (AreRested spinning) task → AreRested spinning (cond spinning states.LockWait (sleep_of call)) task.saved
+rested-again true call task was = (inl refl, was.1)
+rested-again false call task was = (sleeping call, was.1)
+
+-- its state is restored
+rested-restored : (spinning : Bool) (task : TaskPart) → HasStates (AreRested spinning) task → HasStates (AreRested false) (restored spinning task)
+rested-restored true task was = (was.1, refl)
+rested-restored false task was = (λ same. cc, was.1)
+
+-- it leaves the queue, where it is in one
+pub rested-left : (spinning : Bool) (task : TaskPart) → HasStates (AreRested (is_some task.blocked && spinning)) task → HasStates (AreRested false) (leave_queue spinning task)
+rested-left spinning task was = by_queue (is_some task.blocked) was
+  where
+    by_queue : (queued : Bool) → HasStates (AreRested (queued && spinning)) task → HasStates (AreRested false) (cond queued (record (restored spinning task) { blocked = None }) task)
+    by_queue true was = rested-restored spinning task was
+    by_queue false was = was
+
+-- it sets its state, by the number of one
+pub rested-set : (value : ℕ) (task : TaskPart) → HasStates (AreRested false) task → AreRested false (state_numbered value) task.saved
+rested-set value task was =
+    cond_both (nat_eq value 0) states.Running (cond (nat_eq value 1) states.Interruptible states.Uninterruptible) (λ (state : TaskState). AreRested false state task.saved)
+    (λ is. (λ same. cc, was.1))
+    (λ is. cond_both (nat_eq value 1) states.Interruptible states.Uninterruptible (λ (state : TaskState). AreRested false state task.saved) (λ one. (λ same. cc, was.1)) (λ two. (λ same. cc, was.1)))
+
+-- ---- whether a task waits for a spinning kind
+
+-- told by the kinds that its thread knows and the lock on which it is blocked
+abbrev spins_among : List Kind → Option LockId → Bool
+spins_among known None = false
+spins_among known (Some l) = spins (unwrap_or (slice_get known l.0) Mutex)
+
+spins_told : (thread : ThreadPart) (blocked : Option (LockId × ℕ)) → spins_at thread blocked ≡ spins_among thread.kinds (blocking blocked)
+spins_told thread None = refl
+spins_told thread (Some at) = refl
+
+-- so it is the same where these stay
+pub still_waits : (thread after : ThreadPart) (blocked left : Option (LockId × ℕ)) → after.kinds ≡ thread.kinds → blocking left ≡ blocking blocked → spins_at after left ≡ spins_at thread blocked
+still_waits thread after blocked left known same = spins_told after left ∙ ((λ i. spins_among (known i) (same i)) ∙ sym (spins_told thread blocked))
+
+-- and of a task that is blocked on a lock it is whether that spins, as any thread with the same kinds knows it
+pub waits_there : (thread other : ThreadPart) (blocked : Option (LockId × ℕ)) (l : LockId) → thread.kinds ≡ other.kinds → blocking blocked ≡ Some l → spins_at thread blocked ≡ spins (kind_of other l)
+waits_there thread other blocked l known is = spins_told thread blocked ∙ (λ i. spins_among (known i) (is i))
+
+-- all threads know the same kinds, so any of them tells it of a task that is blocked on the lock
+pub waits_as : (s : State) (u v : TaskId) (l : LockId) → IsShaped s → u.0 < length s.threads → v.0 < length s.threads → blocking (task_part s u).blocked ≡ Some l
+    → waits_spinning (thread_part s u) (task_part s u) ≡ spins (kind_of (thread_part s v) l)
+waits_as s u v l shaped here there is = waits_there (thread_part s u) (thread_part s v) (task_part s u).blocked l (known u here ∙ sym (known v there)) is
+  where
+    known : (w : TaskId) → w.0 < length s.threads → (thread_part s w).kinds ≡ shaped.known
+    known w lt = All-default (λ (thread : ThreadPart). thread.kinds ≡ shaped.known) s.threads w.0 _ shaped.alike lt

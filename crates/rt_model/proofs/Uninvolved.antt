@@ -1,7 +1,7 @@
 -- A task that an event doesn't involve has a next event where it had one, and walks as it did. A cycle may leave it another kept
 -- top, as the owner of the lock, but that tells nothing of its next event.
 use Rattle.std.proofs.Common.{◌≡◌, ℕ, zero, suc, Bool, true, false, cond, ◌||◌, List, refl, sym, ap, ◌∙◌, Option, Some, None, unwrap_or}
-use Rattle.std.specs.Prelude.{slice_get, nat_eq, ◌&&◌}
+use Rattle.std.specs.Prelude.{slice_get, nat_eq, is_some, ◌&&◌}
 use Rattle.rt_base.specs.declared.call.Call.{Call}
 use Rattle.rt_base.specs.declared.call.Call.TheVariants as calls
 use Rattle.rt_base.specs.declared.id.LockId.{LockId}
@@ -14,14 +14,15 @@ use Rattle.rt_model.specs.declared.phase.Phase.TheVariants as phases
 use Rattle.rt_model.specs.Parts.{OwnerPart, TaskPart, ThreadPart, call_of}
 use Rattle.rt_model.specs.Rows.{top_key, top_changed}
 use Rattle.rt_model.specs.State.{State, shared, no_task, task_part, thread_part}
-use Rattle.rt_model.specs.steps.Task.{with_top, runs}
+use Rattle.rt_model.specs.steps.Task.{with_top, runs, is_interruptible}
 use Rattle.rt_model.specs.Effect.{Touched, Around, around}
 use Rattle.rt_model.specs.Rules.{touched, effect}
 use Rattle.rt_model.specs.Choice.{called_lock}
+use Rattle.rt_model.specs.events.Own.{own_answer}
 use Rattle.rt_model.specs.events.Acquire.{unowned, busy_touched}
 use Rattle.rt_model.specs.events.Wait.{is_interrupted, is_awake}
 use Rattle.rt_model.specs.StateAfter.{at_task, effect_in, lock_left, state_after}
-use Rattle.rt_model.specs.CanMove.{can_go_on, can_in, can_at, can_move, IsOther, IsUninvolved}
+use Rattle.rt_model.specs.CanMove.{has_first, can_go_on, can_in, can_at, can_move, IsOther, IsUninvolved}
 use Rattle.rt_model.specs.Run.{is_enabled}
 use Rattle.rt_model.specs.Order.{in_walk, is_walking}
 use Rattle.rt_model.proofs.Lists.{update-other}
@@ -45,8 +46,12 @@ same-goes_on : (phase : Phase) (thread : ThreadPart) (x y : TaskPart) (lock : Op
 same-goes_on phases.Wait thread x y (Some l) state signal = same-awake (call_of thread) x y state signal
 same-goes_on _ thread x y lock state signal = refl
 
+same-first : (call : Call) (x y : TaskPart) → y.state ≡ x.state → y.signal ≡ x.signal → has_first call y ≡ has_first call x
+same-first calls.Schedule x y state signal = λ i. runs (state i) || (is_interruptible (state i) && signal i)
+same-first _ x y state signal = refl
+
 same-in : (phase : Phase) (thread : ThreadPart) (x y : TaskPart) (call : Call) → y.state ≡ x.state → y.signal ≡ x.signal → can_in phase thread y call ≡ can_in phase thread x call
-same-in phases.Start thread x y call state signal = refl
+same-in phases.Start thread x y call state signal = λ i. is_some (own_answer thread call) || same-first call x y state signal i
 same-in phase thread x y call state signal = same-goes_on phase thread x y (called_lock thread.cpu call) state signal
 
 same-at : (thread : ThreadPart) (x y : TaskPart) (call : Option Call) → y.state ≡ x.state → y.signal ≡ x.signal → can_at thread y call ≡ can_at thread x call

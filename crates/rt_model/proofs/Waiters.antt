@@ -4,7 +4,6 @@ use Rattle.std.specs.Prelude.{nat_eq, option_map, option_and_then}
 use Rattle.std.proofs.lemmas.Bool.Decides.{nat_tests}
 use Rattle.std.proofs.lemmas.List.Elements.{All-head, All-tail}
 use Rattle.rt_base.specs.declared.call.Call.{Call}
-use Rattle.rt_base.specs.declared.call.Call.TheVariants as calls
 use Rattle.rt_base.specs.declared.id.LockId.{LockId}
 use Rattle.rt_base.specs.declared.id.TaskId.{TaskId}
 use Rattle.rt_model.specs.declared.event.Event.{Event}
@@ -24,7 +23,7 @@ use Rattle.rt_model.specs.laws.Owners.{owned_by}
 use Rattle.rt_model.specs.laws.Phases.{PhasesLaw}
 use Rattle.rt_model.specs.laws.Walks.{IsFullWalk, IsToConfirm, IsWalkOf}
 use Rattle.rt_model.proofs.Calling.{IsIn, served_call, WaitsFor, waits-holds, waits-called, waits-about, Asks, asks-present}
-use Rattle.rt_model.proofs.events.Acquire.{TakesIn, from_slow, from_wait, from_trylock}
+use Rattle.rt_model.proofs.events.Acquire.{TakesIn, from_slow, from_wait, from_trying}
 use Rattle.rt_model.proofs.events.Walk.{WalksIn, by_full, by_short, IsWalk}
 
 -- the lock on which a task is blocked
@@ -77,7 +76,7 @@ module _ (s : State) (made : ℕ) (t : TaskId) (lawful : IsLawful s made) where
   pub take-elsewhere : (l m : LockId) → TakesIn s t l → nat_eq l.0 m.0 ≡ false → key_at (task_part s t).blocked m ≡ None
   take-elsewhere l m (from_slow is) ne = slow-nowhere m is.call is.at
   take-elsewhere l m (from_wait is awake) ne = wait-elsewhere l m is ne
-  take-elsewhere l m (from_trylock at) ne = ap (λ (b : Option (LockId × ℕ)). key_at b m) (start-blocked (calls.TryLock l) at)
+  take-elsewhere l m (from_trying is) ne = ap (λ (b : Option (LockId × ℕ)). key_at b m) (start-blocked is.call is.at)
 
 -- ---- who is blocked, and on what
 
@@ -119,7 +118,7 @@ WaitsFor-blocked s u at staged phased queued is =
       call = found.1;
       waits_for = found.2;
       calling = found.3;
-      lock = waits-holds Within found.1 at.0 found.2 (λ served. served) (λ served. served) (served_call s u found.1 staged found.3);
+      lock = waits-holds Within found.1 at.0 found.2 (λ served. served) (λ served. served) (λ served. served) (served_call s u found.1 staged found.3);
     }
 
 -- and doesn't own that lock

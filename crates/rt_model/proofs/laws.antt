@@ -3,6 +3,7 @@ pub mod Shape
 pub mod Phases
 pub mod Rows
 pub mod Owners
+pub mod Migration
 pub mod KeptTops
 pub mod Queued
 pub mod AwakeTop
@@ -17,6 +18,9 @@ pub mod Deadlocks
 pub mod Interrupts
 pub mod Cycles
 pub mod Priorities
+pub mod Flat
+pub mod Followed
+pub mod Wakeups
 pub mod Calls
 pub mod Rest
 pub mod Sound

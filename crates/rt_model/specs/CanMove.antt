@@ -10,18 +10,25 @@ use Rattle.rt_model.specs.declared.phase.Phase.{Phase}
 use Rattle.rt_model.specs.declared.phase.Phase.TheVariants as phases
 use Rattle.rt_model.specs.Parts.{TaskPart, ThreadPart, call_of}
 use Rattle.rt_model.specs.Choice.{called_lock}
+use Rattle.rt_model.specs.steps.Task.{passes}
 use Rattle.rt_model.specs.events.Own.{own_answer}
 use Rattle.rt_model.specs.events.Wait.{is_awake}
 
--- a call that isn't answered by its thread alone has a first event
-abbrev pub has_first : Call → Bool
-has_first (calls.Lock l) = true
-has_first (calls.LockInt l) = true
-has_first (calls.TryLock l) = true
-has_first (calls.Unlock l) = true
-has_first (calls.Signal u) = true
-has_first (calls.SetPrio u prio) = true
-has_first _ = false
+-- a call that isn't answered by its thread alone has a first event, but where it gives the processor up and its task sleeps
+abbrev pub has_first : Call → TaskPart → Bool
+has_first (calls.Lock l) task = true
+has_first (calls.LockInt l) task = true
+has_first (calls.TryLock l) task = true
+has_first (calls.Unlock l) task = true
+has_first (calls.Spin l) task = true
+has_first (calls.TrySpin l) task = true
+has_first (calls.Unspin l) task = true
+has_first (calls.State state) task = true
+has_first calls.Schedule task = passes task
+has_first (calls.Wake u) task = true
+has_first (calls.Signal u) task = true
+has_first (calls.SetPrio u prio) task = true
+has_first _ task = false
 
 -- a call that has made its first event goes on, while it is queued only where its task runs or is interrupted
 abbrev pub can_go_on : Phase → ThreadPart → TaskPart → Option LockId → Bool
@@ -32,7 +39,7 @@ can_go_on (phases.Confirm path) thread task lock = true
 can_go_on _ thread task lock = false
 
 abbrev pub can_in : Phase → ThreadPart → TaskPart → Call → Bool
-can_in phases.Start thread task call = is_some (own_answer thread call) || has_first call
+can_in phases.Start thread task call = is_some (own_answer thread call) || has_first call task
 can_in phase thread task call = can_go_on phase thread task (called_lock thread.cpu call)
 
 abbrev pub can_at : ThreadPart → TaskPart → Option Call → Bool

@@ -16,7 +16,7 @@ use Rattle.rt_model.specs.events.Acquire.{acquire_event, try_event}
 use Rattle.rt_model.specs.events.Wait.{slow_event, queued_event}
 use Rattle.rt_model.specs.events.Release.{release_event}
 use Rattle.rt_model.specs.events.Walk.{cursor_event, confirmed_event}
-use Rattle.rt_model.specs.events.Wakeups.{signal_event, setprio_event}
+use Rattle.rt_model.specs.events.Wakeups.{state_event, schedule_event, wake_event, signal_event, setprio_event}
 use Rattle.rt_model.specs.events.Own.{own_answer, own_event}
 
 -- a call's first event, where it isn't answered by the thread alone; so far for the calls that are played
@@ -25,6 +25,12 @@ first_event sh t thread (calls.Lock l) = Some (acquire_event t l (lock_in sh l))
 first_event sh t thread (calls.LockInt l) = Some (acquire_event t l (lock_in sh l))
 first_event sh t thread (calls.TryLock l) = Some (try_event t l (kind_of thread l) (lock_in sh l) (task_in sh t))
 first_event sh t thread (calls.Unlock l) = Some (release_event t l (lock_in sh l) (task_in sh t))
+first_event sh t thread (calls.Spin l) = Some (acquire_event t l (lock_in sh l))
+first_event sh t thread (calls.TrySpin l) = Some (try_event t l (kind_of thread l) (lock_in sh l) (task_in sh t))
+first_event sh t thread (calls.Unspin l) = Some (release_event t l (lock_in sh l) (task_in sh t))
+first_event sh t thread (calls.State state) = Some (state_event t state)
+first_event sh t thread calls.Schedule = schedule_event t (task_in sh t)
+first_event sh t thread (calls.Wake u) = Some (wake_event t u (task_in sh u))
 first_event sh t thread (calls.Signal u) = Some (signal_event t u (task_in sh u))
 first_event sh t thread (calls.SetPrio u prio) = Some (setprio_event t u prio (task_in sh u))
 first_event sh t thread _ = None

@@ -1,5 +1,5 @@
 -- The objects of the machine: what a lock, a task and a thread are.
-use Rattle.std.specs.Prelude.{ℕ, Bool, false, List, [], ◌∷◌, min, Option, Some, None, unwrap_or, slice_get}
+use Rattle.std.specs.Prelude.{ℕ, ◌+◌, Bool, false, List, [], ◌∷◌, min, Option, Some, None, unwrap_or, slice_get}
 use Rattle.rt_base.specs.declared.call.Call.{Call}
 use Rattle.rt_base.specs.declared.id.LockId.{LockId}
 use Rattle.rt_base.specs.declared.id.TaskId.{TaskId}
@@ -69,3 +69,9 @@ kind_of thread l = unwrap_or (slice_get thread.kinds l.0) Mutex
 abbrev pub kind_named : ThreadPart → Option LockId → Kind
 kind_named thread None = Mutex
 kind_named thread (Some l) = kind_of thread l
+
+-- what these holds of locks of these kinds count together, where each counts so much
+abbrev pub count_holds : (Kind → Hold → ℕ) → List Kind → List Hold → ℕ
+count_holds count [] holds = 0
+count_holds count (kind ∷ kinds) [] = 0
+count_holds count (kind ∷ kinds) (hold ∷ holds) = count kind hold + count_holds count kinds holds

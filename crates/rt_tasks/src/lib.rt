@@ -8,6 +8,8 @@ mod sleep;
 mod task_cell;
 #[cfg(test)]
 mod task_cell_tests;
+#[cfg(test)]
+mod wakeup_tests;
 mod woken;
 
 pub use task_cell::TaskCell;

@@ -1,7 +1,14 @@
 ghost use Rattle.std.specs.Prelude.{◌≡◌};
-ghost use Rattle.rt_model.specs.steps.Task.{sleeps, is_interruptible, lock_state_woken};
+ghost use Rattle.rt_model.specs.steps.Task.{runs, sleeps, is_interruptible, lock_state_woken};
 
 use rt_base::TaskState;
+
+// Whether the task runs.
+pub fn runs(state: TaskState) -> bool
+    ensures { result ≡ runs state }
+{
+    matches!(state, TaskState::Running)
+}
 
 // Whether it is one of the two ordinary sleeps.
 pub fn sleeps(state: TaskState) -> bool

@@ -2,10 +2,10 @@ ghost use Rattle.std.specs.Prelude.{◌≡◌, ◌<◌, ◌||◌, length, option
 ghost use Rattle.rt_model.specs.Parts.{effective_of};
 ghost use Rattle.rt_model.specs.State.{fresh_task};
 ghost use Rattle.rt_model.specs.laws.KeptTops.{kept_of};
-ghost use Rattle.rt_model.specs.steps.Task.{with_top, with_own, blocked_on, restored, leave_queue, sleeps, woken_up, is_interruptible, signalled, lock_woken};
+ghost use Rattle.rt_model.specs.steps.Task.{with_top, with_own, blocked_on, restored, leave_queue, sleeps, woken_up, is_interruptible, signalled, lock_woken, passes};
 
 use crate::kept_tops::KeptTops;
-use crate::sleep::{is_interruptible, lock_state_woken, sleeps};
+use crate::sleep::{is_interruptible, lock_state_woken, runs, sleeps};
 use crate::woken::Woken;
 use rt_base::{LockId, NoMemory, Prio, TaskState};
 use std::alloc::Global;
@@ -287,6 +287,21 @@ impl TaskCell {
         ensures { self.new ≡ record self.old { state = s } }
     {
         self.state = s;
+    }
+
+    /// Whether it doesn't sleep where it gives the processor up: it runs, or a signal is pending in its
+    /// interruptible sleep, `signal_pending_state` in `schedule`.
+    pub fn passes(&self) -> bool
+        ensures { result ≡ passes self.now }
+    {
+        runs(self.state) || is_interruptible(self.state) && self.signal
+    }
+
+    /// Whether a wakeup would end a sleep of it, or one that is saved, `ttwu_state_match`.
+    pub fn heeds_wake(&self) -> bool
+        ensures { result ≡ (sleeps self.now.state || sleeps self.now.saved) }
+    {
+        sleeps(self.state) || sleeps(self.saved)
     }
 
     /// Ends a sleep, or one that is saved, `try_to_wake_up`.

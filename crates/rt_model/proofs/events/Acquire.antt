@@ -1,7 +1,6 @@
 -- Acquires: how they come about, and that their choice reads only what they touch.
 use Rattle.std.proofs.Common.{◌≡◌, ◌⊎◌, inl, inr, ◌<◌, length, Bool, true, false, cond, not, ◌&&◌, refl, sym, ap, ◌∙◌, Option, Some, None, is_none}
 use Rattle.rt_base.specs.declared.call.Call.{Call}
-use Rattle.rt_base.specs.declared.call.Call.TheVariants as calls
 use Rattle.rt_base.specs.declared.id.LockId.{LockId}
 use Rattle.rt_base.specs.declared.id.TaskId.{TaskId}
 use Rattle.rt_base.specs.declared.kind.Kind.{Kind}
@@ -16,7 +15,7 @@ use Rattle.rt_model.specs.steps.Thread.{with_hold, holds_after}
 use Rattle.rt_model.specs.Footprint.{touches}
 use Rattle.rt_model.specs.events.Wait.{is_awake}
 use Rattle.rt_model.specs.events.Acquire.{fast_event, mark_event, is_free, acquire_event, take_event, take_or, busy_event, try_event}
-use Rattle.rt_model.proofs.Calling.{IsIn, WaitsFor, waits-holds, Asks, asks-lock}
+use Rattle.rt_model.proofs.Calling.{WaitsFor, waits-holds, Asks, asks-lock, TriesFor, tries-holds, Tries}
 use Rattle.rt_model.proofs.Touching.{touches-lock, touches-own}
 use Rattle.rt_model.proofs.Alike.{Alike}
 
@@ -25,7 +24,7 @@ use Rattle.rt_model.proofs.Alike.{Alike}
 -- the calls that acquire a lock: one that waits for it, which doesn't hold it, and one that tries
 pub data AcquiresIn (s : State) (t : TaskId) (l : LockId) : Type 0 where
   by_lock : Asks s t phases.Start l → (hold_of (thread_part s t) l).owns ≡ false → AcquiresIn s t l
-  by_trylock : IsIn s t phases.Start (calls.TryLock l) → AcquiresIn s t l
+  by_trying : Tries s t l → AcquiresIn s t l
 
 -- the task gets a free lock at once
 pub record IsFast (s : State) (t : TaskId) (l : LockId) (e : Event) : Type 0 where
@@ -46,7 +45,7 @@ pub record IsMark (s : State) (t : TaskId) (l : LockId) (e : Event) : Type 0 whe
 pub data TakesIn (s : State) (t : TaskId) (l : LockId) : Type 0 where
   from_slow : Asks s t phases.Slow l → TakesIn s t l
   from_wait : Asks s t phases.Wait l → is_awake (call_of (thread_part s t)) (task_part s t) ≡ true → TakesIn s t l
-  from_trylock : IsIn s t phases.Start (calls.TryLock l) → TakesIn s t l
+  from_trying : Tries s t l → TakesIn s t l
 
 -- it takes the lock
 pub record IsTake (s : State) (t : TaskId) (l : LockId) (e : Event) : Type 0 where
@@ -58,7 +57,7 @@ pub record IsTake (s : State) (t : TaskId) (l : LockId) (e : Event) : Type 0 whe
 
 -- it tries, and may not take the lock
 pub record IsBusy (s : State) (t : TaskId) (l : LockId) (e : Event) : Type 0 where
-  pub at : IsIn s t phases.Start (calls.TryLock l)
+  pub at : Tries s t l
   pub cannot : can_take t (kind_of (thread_part s t) l) (owner_part s l) (task_part s t) ≡ false
   pub event : e ≡ busy_event t l (owner_part s l)
 
@@ -87,7 +86,7 @@ taken_or s t l other e how task lock is = by_test (can_take t (kind_of (thread_p
     by_test true can is = inl (record { how = how; task = task; lock = lock; can = can; event = sym is })
     by_test false can is = inr (can, sym is)
 
-pub tried : (s : State) (t : TaskId) (l : LockId) (e : Event) → IsIn s t phases.Start (calls.TryLock l) → try_event t l (kind_of (thread_part s t) l) (owner_part s l) (task_part s t) ≡ e → IsAcquire s t l e
+pub tried : (s : State) (t : TaskId) (l : LockId) (e : Event) → Tries s t l → try_event t l (kind_of (thread_part s t) l) (owner_part s l) (task_part s t) ≡ e → IsAcquire s t l e
 tried s t l e at is = by_owner (owner_part s l).owner (owner_part s l).bit refl refl is
   where
     other : Event
@@ -98,10 +97,10 @@ tried s t l e at is = by_owner (owner_part s l).owner (owner_part s l).bit refl 
     either (inr busy) = is_busy (record { at = at; cannot = busy.0; event = busy.1 })
 
     or_busy : other ≡ e → IsAcquire s t l e
-    or_busy is = either (taken_or s t l (busy_event t l (owner_part s l)) e (from_trylock at) at.task at.served is)
+    or_busy is = either (taken_or s t l (busy_event t l (owner_part s l)) e (from_trying at) at.at.task at.lock is)
 
     by_owner : (owner : Option TaskId) (bit : Bool) → (owner_part s l).owner ≡ owner → (owner_part s l).bit ≡ bit → cond (is_none owner && not bit) (fast_event t l) other ≡ e → IsAcquire s t l e
-    by_owner None false none clear is = is_fast (record { how = by_trylock at; task = at.task; lock = at.served; owner = none; bit = clear; event = sym is })
+    by_owner None false none clear is = is_fast (record { how = by_trying at; task = at.at.task; lock = at.lock; owner = none; bit = clear; event = sym is })
     by_owner None true none set is = or_busy is
     by_owner (Some o) bit some b is = or_busy is
 
@@ -109,7 +108,7 @@ tried s t l e at is = by_owner (owner_part s l).owner (owner_part s l).bit refl 
 
 -- it is one that waits for this lock, or that tries
 abbrev pub IsAcquireOf : LockId → Call → Type 0
-IsAcquireOf l call = WaitsFor call l ⊎ (call ≡ calls.TryLock l)
+IsAcquireOf l call = WaitsFor call l ⊎ TriesFor call l
 
 -- the task is at such a call
 pub record IsAcquiring (s : State) (t : TaskId) (l : LockId) : Type 0 where
@@ -119,20 +118,20 @@ pub record IsAcquiring (s : State) (t : TaskId) (l : LockId) : Type 0 where
 
 pub fast-acquiring : (s : State) (t : TaskId) (l : LockId) → AcquiresIn s t l → IsAcquiring s t l
 fast-acquiring s t l (by_lock asks unheld) = record { call = asks.call; calling = asks.at.calling; acquires = inl asks.waits_for }
-fast-acquiring s t l (by_trylock at) = record { call = calls.TryLock l; calling = at.calling; acquires = inr refl }
+fast-acquiring s t l (by_trying at) = record { call = at.call; calling = at.at.calling; acquires = inr at.tries_for }
 
 pub take-acquiring : (s : State) (t : TaskId) (l : LockId) → TakesIn s t l → IsAcquiring s t l
 take-acquiring s t l (from_slow asks) = record { call = asks.call; calling = asks.at.calling; acquires = inl asks.waits_for }
 take-acquiring s t l (from_wait asks awake) = record { call = asks.call; calling = asks.at.calling; acquires = inl asks.waits_for }
-take-acquiring s t l (from_trylock at) = record { call = calls.TryLock l; calling = at.calling; acquires = inr refl }
+take-acquiring s t l (from_trying at) = record { call = at.call; calling = at.at.calling; acquires = inr at.tries_for }
 
 -- with the answer got it holds the lock
 pub got-holds : (s : State) (t : TaskId) (l : LockId) → IsAcquiring s t l → holds_after (thread_part s t) (call_of (thread_part s t)) Got ≡ with_hold (thread_part s t) l true
 got-holds s t l is = ap (λ (c : Option Call). holds_after (thread_part s t) c Got) is.calling ∙ by_call is.acquires
   where
     by_call : IsAcquireOf l is.call → holds_after (thread_part s t) (Some is.call) Got ≡ with_hold (thread_part s t) l true
-    by_call (inl waits_for) = waits-holds (λ c. holds_after (thread_part s t) (Some c) Got ≡ with_hold (thread_part s t) l true) is.call l waits_for refl refl
-    by_call (inr same) = ap (λ (c : Call). holds_after (thread_part s t) (Some c) Got) same
+    by_call (inl waits_for) = waits-holds (λ c. holds_after (thread_part s t) (Some c) Got ≡ with_hold (thread_part s t) l true) is.call l waits_for refl refl refl
+    by_call (inr tries) = tries-holds (λ c. holds_after (thread_part s t) (Some c) Got ≡ with_hold (thread_part s t) l true) is.call l tries refl refl
 
 -- ---- what the choice reads
 

@@ -27,6 +27,10 @@ not_held nested held is = by_test (nat_lt 0 nested) held is
     by_test false true is = cc
     by_test false false is = refl
 
+pub unheld : (held : Bool) → if_held held ≡ None → held ≡ false
+unheld true is = cc
+unheld false is = refl
+
 pub was_held : (held : Bool) → if_not_held held ≡ None → held ≡ true
 was_held true is = refl
 was_held false is = cc

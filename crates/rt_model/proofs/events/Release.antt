@@ -1,14 +1,12 @@
 -- Releases: how they come about, and that their choice reads only what they touch.
 use Rattle.std.proofs.Common.{◌≡◌, Bool, true, false, cond, refl, sym, ap, ◌∙◌}
-use Rattle.rt_base.specs.declared.call.Call.TheVariants as calls
 use Rattle.rt_base.specs.declared.id.LockId.{LockId}
 use Rattle.rt_base.specs.declared.id.TaskId.{TaskId}
 use Rattle.rt_model.specs.declared.event.Event.{Event}
-use Rattle.rt_model.specs.declared.phase.Phase.TheVariants as phases
 use Rattle.rt_model.specs.Parts.{OwnerPart, hold_of}
 use Rattle.rt_model.specs.State.{State, Shared, lock_in, task_in, owner_part, task_part, thread_part}
 use Rattle.rt_model.specs.events.Release.{free_event, give_event, release_event}
-use Rattle.rt_model.proofs.Calling.{IsIn}
+use Rattle.rt_model.proofs.Calling.{Returns}
 use Rattle.rt_model.proofs.Touching.{touches-lock, touches-own}
 use Rattle.rt_model.proofs.Alike.{Alike}
 
@@ -16,14 +14,14 @@ use Rattle.rt_model.proofs.Alike.{Alike}
 
 -- the task releases the lock at once
 pub record IsFree (s : State) (t : TaskId) (l : LockId) (e : Event) : Type 0 where
-  pub at : IsIn s t phases.Start (calls.Unlock l)
+  pub at : Returns s t l
   pub held : (hold_of (thread_part s t) l).owns ≡ true
   pub bit : (owner_part s l).bit ≡ false
   pub event : e ≡ free_event t l
 
 -- it gives the lock up
 pub record IsGive (s : State) (t : TaskId) (l : LockId) (e : Event) : Type 0 where
-  pub at : IsIn s t phases.Start (calls.Unlock l)
+  pub at : Returns s t l
   pub held : (hold_of (thread_part s t) l).owns ≡ true
   pub bit : (owner_part s l).bit ≡ true
   pub event : e ≡ give_event t l (owner_part s l) (task_part s t)
@@ -32,7 +30,7 @@ pub data IsRelease (s : State) (t : TaskId) (l : LockId) (e : Event) : Type 0 wh
   is_free : IsFree s t l e → IsRelease s t l e
   is_give : IsGive s t l e → IsRelease s t l e
 
-pub released : (s : State) (t : TaskId) (l : LockId) (e : Event) → IsIn s t phases.Start (calls.Unlock l) → (hold_of (thread_part s t) l).owns ≡ true → release_event t l (owner_part s l) (task_part s t) ≡ e → IsRelease s t l e
+pub released : (s : State) (t : TaskId) (l : LockId) (e : Event) → Returns s t l → (hold_of (thread_part s t) l).owns ≡ true → release_event t l (owner_part s l) (task_part s t) ≡ e → IsRelease s t l e
 released s t l e at held is = by_bit (owner_part s l).bit refl is
   where
     by_bit : (bit : Bool) → (owner_part s l).bit ≡ bit → cond bit (give_event t l (owner_part s l) (task_part s t)) (free_event t l) ≡ e → IsRelease s t l e

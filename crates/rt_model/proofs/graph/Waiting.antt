@@ -1,7 +1,7 @@
 -- At rest an effective priority is the task's own one, or the effective one of a task that leads to it; and it is no worse than
 -- that of any task that leads to it.
 use Rattle.std.proofs.Common.{◌≡◌, ◌⊎◌, inl, inr, ℕ, zero, suc, ◌<◌, ◌≤◌, min, Bool, true, false, cond, List, [], ◌∷◌, length, map, refl, sym, ap, ◌∙◌, subst, arith, All, IfSome, Option, Some, None, unwrap_or}
-use Rattle.std.specs.Prelude.{AllPairs, slice_get, nat_eq, is_some, option_map}
+use Rattle.std.specs.Prelude.{slice_get, nat_eq, is_some, option_map}
 use Rattle.std.proofs.lemmas.Bool.{cases_lt}
 use Rattle.std.proofs.lemmas.List.Elements.{All-head, All-tail, All-cons, All-nil, All-append, All-map, All-weaker}
 use Rattle.std.proofs.lemmas.Option.{slice_get_past}
@@ -20,11 +20,9 @@ use Rattle.rt_model.specs.laws.Lawful.{IsLawful}
 use Rattle.rt_model.specs.laws.Owners.{owned_by}
 use Rattle.rt_model.specs.laws.Priorities.{waiting_keys}
 use Rattle.rt_model.specs.laws.Rest.{IsAtRest}
-use Rattle.rt_model.specs.laws.Rows.{key_at, IsAhead}
-use Rattle.rt_model.proofs.Lists.{All-both}
+use Rattle.rt_model.specs.laws.Rows.{key_at}
 use Rattle.rt_model.proofs.Numbers.{number_itself}
-use Rattle.rt_model.proofs.Queues.{AllPairs-head, AllPairs-tail, find-holds}
-use Rattle.rt_model.proofs.graph.Along.{other-test}
+use Rattle.rt_model.proofs.Queues.{find-holds, own-row}
 use Rattle.rt_model.proofs.graph.Standing.{owned-is}
 use Rattle.rt_model.proofs.graph.Turned.{All-front, All-back}
 use Rattle.rt_model.proofs.laws.Priorities.{priority-law}
@@ -96,14 +94,6 @@ queued-holds P t rows all = by_row (row_of t rows) (find-holds (λ (row : Row). 
     by_row : (row : Option Row) → IfSome row (λ (r : Row). P r.key) → IfSome (option_map (λ (r : Row). r.key) row) P
     by_row None is = tt
     by_row (Some r) is = is
-
--- each row is the one with which its task is queued
-own-row : (rows : List Row) → AllPairs IsAhead rows → All (λ (row : Row). queued_key (task_of row) rows ≡ Some row.key) rows
-own-row [] order = All-nil (λ (row : Row). queued_key (task_of row) [] ≡ Some row.key)
-own-row (first ∷ rows) order =
-    All-cons (λ (row : Row). queued_key (task_of row) (first ∷ rows) ≡ Some row.key) first rows (rw (number_itself first.who) refl)
-    (All-both (IsAhead first) (λ (row : Row). queued_key (task_of row) rows ≡ Some row.key) (λ (row : Row). queued_key (task_of row) (first ∷ rows) ≡ Some row.key)
-    (λ row ahead is. rw (other-test first.who row.who ahead.task) is) rows (AllPairs-head IsAhead first rows order) (own-row rows (AllPairs-tail IsAhead first rows order)))
 
 -- ---- at rest no walk names a task, and each is queued with its effective priority
 

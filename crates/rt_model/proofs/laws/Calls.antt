@@ -1,7 +1,6 @@
 -- Each task's events make its calls once and in order.
-use Rattle.std.proofs.Common.{◌≡◌, inl, inr, ℕ, zero, suc, ◌+◌, ◌<◌, ◌≤◌, Bool, true, false, cond, ◌||◌, List, [], ◌∷◌, length, drop, refl, sym, ap, ◌∙◌, subst, Option, Some, None, All, unwrap_or, arith}
-use Rattle.std.specs.Prelude.{slice_get, nat_eq}
-use Rattle.std.proofs.lemmas.List.Elements.{All-head, All-tail}
+use Rattle.std.proofs.Common.{◌≡◌, inl, inr, ℕ, zero, suc, ◌+◌, ◌<◌, ◌≤◌, Bool, true, false, cond, ◌||◌, List, [], ◌∷◌, length, drop, refl, sym, ap, ◌∙◌, subst, Option, Some, None, unwrap_or, arith}
+use Rattle.std.specs.Prelude.{slice_get, nat_eq, nat_lt}
 use Rattle.std.proofs.lemmas.List.Sums.{AllPass-from_list_all}
 use Rattle.std.proofs.lemmas.Option.{slice_get_cases}
 use Rattle.rt_base.specs.Script.{Script, TaskLine, task_line}
@@ -11,42 +10,42 @@ use Rattle.rt_base.specs.declared.ended.Ended.TheVariants.{Done, Stuck, Limit}
 use Rattle.rt_base.specs.declared.id.Cpu.{Cpu}
 use Rattle.rt_base.specs.declared.id.LockId.{LockId}
 use Rattle.rt_base.specs.declared.id.TaskId.{TaskId}
-use Rattle.rt_base.specs.declared.kind.Kind.{Kind}
-use Rattle.rt_base.specs.declared.kind.Kind.TheVariants.{Mutex}
 use Rattle.rt_base.specs.declared.reply.Reply.{Reply}
 use Rattle.rt_base.specs.declared.reply.Reply.TheVariants as replies
 use Rattle.rt_model.specs.declared.event.Event.{Event}
 use Rattle.rt_model.specs.declared.event_kind.EventKind.{EventKind}
 use Rattle.rt_model.specs.declared.event_kind.EventKind.TheVariants as kinds
-use Rattle.rt_model.specs.declared.hold.Hold.{Hold}
 use Rattle.rt_model.specs.declared.phase.Phase.{Phase}
 use Rattle.rt_model.specs.declared.phase.Phase.TheVariants as phases
 use Rattle.rt_model.specs.declared.phase.Route.{Route}
 use Rattle.rt_model.specs.declared.phase.Route.TheVariants.{Short}
 use Rattle.rt_model.specs.Parts.{ThreadPart, call_of, hold_of}
-use Rattle.rt_model.specs.State.{State, shared, start, fresh_thread, kinds_in, thread_part}
+use Rattle.rt_model.specs.State.{State, shared, start, fresh_thread, kinds_in, owner_part, thread_part}
+use Rattle.rt_model.specs.Choice.{called_lock}
 use Rattle.rt_model.specs.steps.Thread.{answered_with}
 use Rattle.rt_model.specs.steps.Chain.{answer_of_walk}
 use Rattle.rt_model.specs.laws.Keys.{StandsAt}
 use Rattle.rt_model.specs.Effect.{around}
+use Rattle.rt_model.specs.events.Acquire.{busy_event}
 use Rattle.rt_model.specs.events.Own.{unless_nested, if_held, if_not_held, spinning_holds, own_event}
 use Rattle.rt_model.specs.Rules.{touched}
 use Rattle.rt_model.specs.StateAfter.{effect_in, shared_after, state_after}
 use Rattle.rt_model.specs.Run.{after, IsRun, is_at_end, is_done, is_stuck, ended_of}
-use Rattle.rt_model.specs.Stage.{IsToCome, IsStaged}
+use Rattle.rt_model.specs.Stage.{IsToCome}
 use Rattle.rt_model.specs.laws.Lawful.{IsLawful}
 use Rattle.rt_model.specs.laws.Shape.{IsOf}
-use Rattle.rt_model.specs.laws.Calls.{can_have_waiting, can_have_signalled, can_have, NamesFor, IsOfCall, IsOfWalk, is_of_walk, then_make, makes_first, Make, events_of, answered_after, CallsLaw}
+use Rattle.rt_model.specs.laws.Calls.{can_have_waiting, can_have_signalled, can_have_nested, can_have_trying, can_have_releasing, can_have_waking, can_have, called_task, called_number, NamesFor, IsOfCall, IsOfWalk, is_of_walk, then_make, makes_first, Make, events_of, answered_after, CallsLaw}
 use Rattle.rt_model.proofs.Lists.{All-default, read-map}
 use Rattle.rt_model.proofs.Numbers.{same_task}
-use Rattle.rt_model.proofs.Calling.{IsIn, WaitsFor, by_lock, by_lockint, waits-holds, Asks}
+use Rattle.rt_model.proofs.Calling.{IsIn, WaitsFor, waits-holds, waits-called, Asks, tries-holds, Returns, releases-holds}
 use Rattle.rt_model.proofs.Leaves.{IsLeft, by_leave, by_cycle, left-is, leave-left, cycle-left}
-use Rattle.rt_model.proofs.NextEvents.{IsNext, by_own, by_acquire, by_wait, by_release, by_walk, by_confirm, by_signal, by_setprio}
+use Rattle.rt_model.proofs.NextEvents.{IsNext, by_own, by_acquire, by_wait, by_release, by_walk, by_confirm, by_wakeup, by_setprio}
 use Rattle.rt_model.proofs.ToCome.{to_come-holds, answered-holds}
 use Rattle.rt_model.proofs.events.Own.{IsOwn}
-use Rattle.rt_model.proofs.events.Acquire.{is_fast, is_mark, is_take, is_busy, IsAcquireOf, IsAcquiring, fast-acquiring, take-acquiring}
+use Rattle.rt_model.proofs.events.Acquire.{IsBusy, is_fast, is_mark, is_take, is_busy, IsAcquireOf, IsAcquiring, fast-acquiring, take-acquiring}
 use Rattle.rt_model.proofs.events.Wait.{is_wait, is_again, is_leave}
 use Rattle.rt_model.proofs.events.Release.{is_free, is_give}
+use Rattle.rt_model.proofs.events.Wakeups.{is_state, is_sched, is_wake, is_signal}
 use Rattle.rt_model.proofs.events.Walk.{WalksIn, by_full, by_short, is_walk, is_walkend, is_restart, is_cycle}
 use Rattle.rt_model.proofs.PartsAfter.{thread-own, thread-other, thread-phase}
 use Rattle.rt_model.proofs.Prefixes.{run-next, run-lawful, next-there, next-task, IsOf-along}
@@ -54,7 +53,6 @@ use Rattle.rt_model.proofs.Starts.{IsOf-start}
 use Rattle.rt_model.proofs.Waiters.{blocking, walk-phase}
 use Rattle.rt_model.proofs.laws.Holders.{other_kind}
 use Rattle.rt_model.proofs.laws.Shape.{thread-keeps, IsOf-threads}
-use Rattle.rt_model.proofs.laws.States.{kinds_known}
 
 -- ---- an event is one of its task's call
 
@@ -64,25 +62,21 @@ record IsAtCall (s : State) (t : TaskId) (e : Event) : Type 0 where
   at : call_of (thread_part s t) ≡ Some call
   of : IsOfCall (thread_part s t).cpu call e
 
--- a thread that knows mutexes alone has no hold that spins
-none-spins : (kinds : List Kind) (holds : List Hold) → All (λ (kind : Kind). kind ≡ Mutex) kinds → spinning_holds kinds holds ≡ 0
-none-spins [] holds all = refl
-none-spins (kind ∷ kinds) [] all = refl
-none-spins (kind ∷ kinds) (hold ∷ holds) all =
-    let here : kind ≡ Mutex = All-head (λ (k : Kind). k ≡ Mutex) kind kinds all in
-    let rest = none-spins kinds holds (All-tail (λ (k : Kind). k ≡ Mutex) kind kinds all) in
-    rw here (omega (arith, rest))
-
-deadlock-answer : (nested : ℕ) (held : Bool) (answer : Reply) → nested ≡ 0 → unless_nested nested (if_held held) ≡ Some answer → answer ≡ replies.Deadlock
-deadlock-answer nested held answer none is = by_held held (subst (λ (n : ℕ). unless_nested n (if_held held) ≡ Some answer) none is)
+-- a call that sleeps in an ordinary state may be refused inside a spinning kind
+nested-holds : (P : Reply → Type 0) (nested : ℕ) (own : Option Reply) (answer : Reply) → unless_nested nested own ≡ Some answer → P replies.Nesting → (own ≡ Some answer → P answer) → P answer
+nested-holds P nested own answer is refused = by_test (nat_lt 0 nested) is
   where
-    by_held : (h : Bool) → if_held h ≡ Some answer → answer ≡ replies.Deadlock
-    by_held true some = cc
-    by_held false some = cc
+    by_test : (b : Bool) → cond b (Some replies.Nesting) own ≡ Some answer → (own ≡ Some answer → P answer) → P answer
+    by_test true some others = let same : replies.Nesting ≡ answer = cc in subst P same refused
+    by_test false some others = others some
 
-notowner-answer : (held : Bool) (answer : Reply) → if_not_held held ≡ Some answer → answer ≡ replies.NotOwner
-notowner-answer true answer is = cc
-notowner-answer false answer is = cc
+deadlock-holds : (P : Reply → Type 0) (held : Bool) (answer : Reply) → if_held held ≡ Some answer → P replies.Deadlock → P answer
+deadlock-holds P true answer is holds = let same : replies.Deadlock ≡ answer = cc in subst P same holds
+deadlock-holds P false answer is holds = cc
+
+notowner-holds : (P : Reply → Type 0) (held : Bool) (answer : Reply) → if_not_held held ≡ Some answer → P replies.NotOwner → P answer
+notowner-holds P true answer is holds = cc
+notowner-holds P false answer is holds = let same : replies.NotOwner ≡ answer = cc in subst P same holds
 
 -- an event that comes about as x, of a call
 written : (cpu : Cpu) (call : Call) (e x : Event) → e ≡ x → can_have call x.kind x.reply ≡ true → NamesFor x.kind cpu call x → IsOfCall cpu call e
@@ -90,42 +84,56 @@ written cpu call e x is can names = subst (IsOfCall cpu call) (sym is) (record {
 
 -- one that waits can have what each that waits can
 can-waiting : (call : Call) (l : LockId) (kind : EventKind) (reply : Option Reply) → WaitsFor call l → can_have_waiting kind reply ≡ true → can_have call kind reply ≡ true
-can-waiting call l kind reply waits_for can = waits-holds (λ c. can_have c kind reply ≡ true) call l waits_for can (ap (λ (b : Bool). b || can_have_signalled kind reply) can)
+can-waiting call l kind reply waits_for can =
+    waits-holds (λ c. can_have c kind reply ≡ true) call l waits_for (ap (λ (b : Bool). b || can_have_nested kind reply) can) (ap (λ (b : Bool). b || can_have_nested kind reply || can_have_signalled kind reply) can) can
 
 -- ---- answers
 
-own-waits : (s : State) (t : TaskId) (call : Call) (l : LockId) (answer : Reply) (e : Event) → IsStaged s → WaitsFor call l
-    → unless_nested (spinning_holds (thread_part s t).kinds (thread_part s t).holds) (if_held (hold_of (thread_part s t) l).owns) ≡ Some answer
-    → e ≡ own_event t (Some l) answer → IsOfCall (thread_part s t).cpu call e
-own-waits s t call l answer e staged waits_for why is =
-    let deadlock = deadlock-answer _ _ answer (none-spins (thread_part s t).kinds (thread_part s t).holds (kinds_known s t staged)) why in
-    written (thread_part s t).cpu call e _ is (can-waiting call l kinds.Own _ waits_for (ap (λ (a : Reply). can_have_waiting kinds.Own (Some a)) deadlock))
-    (waits-holds (λ c. NamesFor kinds.Own (thread_part s t).cpu c (own_event t (Some l) answer)) call l waits_for (refl, refl, refl) (refl, refl, refl))
+-- what a thread answers at once names what its call names
+own-named : (s : State) (t : TaskId) (call : Call) (answer : Reply) (e : Event) → e ≡ own_event t (called_lock (thread_part s t).cpu call) answer → called_task call ≡ None → called_number call ≡ 0
+    → can_have call kinds.Own (Some answer) ≡ true → IsOfCall (thread_part s t).cpu call e
+own-named s t call answer e is task number can = written (thread_part s t).cpu call e _ is can (refl, sym task, sym number)
 
-own-of : (s : State) (t : TaskId) (call : Call) (answer : Reply) (e : Event) → IsStaged s → IsOwn s t call answer e → IsOfCall (thread_part s t).cpu call e
-own-of s t (calls.Lock l) answer e staged is = own-waits s t (calls.Lock l) l answer e staged (by_lock refl) is.why is.event
-own-of s t (calls.LockInt l) answer e staged is = own-waits s t (calls.LockInt l) l answer e staged (by_lockint refl) is.why is.event
-own-of s t (calls.Unlock l) answer e staged is =
-    let notowner = notowner-answer _ answer is.why in
-    written (thread_part s t).cpu (calls.Unlock l) e _ is.event (ap (λ (a : Reply). can_have (calls.Unlock l) kinds.Own (Some a)) notowner) (refl, refl, refl)
-own-of s t (calls.TryLock l) answer e staged is = let why = is.why in cc
-own-of s t (calls.Signal u) answer e staged is = let why = is.why in cc
-own-of s t (calls.SetPrio u prio) answer e staged is = let why = is.why in cc
-own-of s t _ answer e staged is = absurd is.at.served
+-- one that sleeps in an ordinary state is refused inside a spinning kind, or where it holds the lock
+abbrev nested : State → TaskId → ℕ
+nested s t = spinning_holds (thread_part s t).kinds (thread_part s t).holds
+
+own-sleeps : (s : State) (t : TaskId) (call : Call) (l : LockId) (answer : Reply) → unless_nested (nested s t) (if_held (hold_of (thread_part s t) l).owns) ≡ Some answer
+    → can_have call kinds.Own (Some replies.Nesting) ≡ true → can_have call kinds.Own (Some replies.Deadlock) ≡ true → can_have call kinds.Own (Some answer) ≡ true
+own-sleeps s t call l answer why nesting deadlock =
+    let held : Bool = (hold_of (thread_part s t) l).owns in
+    nested-holds (λ a. can_have call kinds.Own (Some a) ≡ true) (nested s t) (if_held held) answer why nesting (λ held_already. deadlock-holds (λ a. can_have call kinds.Own (Some a) ≡ true) held answer held_already deadlock)
+
+own-of : (s : State) (t : TaskId) (call : Call) (answer : Reply) (e : Event) → IsOwn s t call answer e → IsOfCall (thread_part s t).cpu call e
+own-of s t (calls.Lock l) answer e is = own-named s t (calls.Lock l) answer e is.event refl refl (own-sleeps s t (calls.Lock l) l answer is.why refl refl)
+own-of s t (calls.LockInt l) answer e is = own-named s t (calls.LockInt l) answer e is.event refl refl (own-sleeps s t (calls.LockInt l) l answer is.why refl refl)
+own-of s t (calls.Spin l) answer e is = own-named s t (calls.Spin l) answer e is.event refl refl (deadlock-holds (λ a. can_have (calls.Spin l) kinds.Own (Some a) ≡ true) _ answer is.why refl)
+own-of s t (calls.Unlock l) answer e is = own-named s t (calls.Unlock l) answer e is.event refl refl (notowner-holds (λ a. can_have (calls.Unlock l) kinds.Own (Some a) ≡ true) _ answer is.why refl)
+own-of s t (calls.Unspin l) answer e is = own-named s t (calls.Unspin l) answer e is.event refl refl (notowner-holds (λ a. can_have (calls.Unspin l) kinds.Own (Some a) ≡ true) _ answer is.why refl)
+own-of s t calls.Schedule answer e is =
+    own-named s t calls.Schedule answer e is.event refl refl (nested-holds (λ a. can_have calls.Schedule kinds.Own (Some a) ≡ true) (nested s t) None answer is.why refl (λ why. cc))
+own-of s t (calls.TryLock l) answer e is = let why = is.why in cc
+own-of s t (calls.TrySpin l) answer e is = let why = is.why in cc
+own-of s t (calls.State state) answer e is = let why = is.why in cc
+own-of s t (calls.Wake u) answer e is = let why = is.why in cc
+own-of s t (calls.Signal u) answer e is = let why = is.why in cc
+own-of s t (calls.SetPrio u prio) answer e is = let why = is.why in cc
+own-of s t _ answer e is = absurd is.at.served
 
 -- a short walk's link, and its end
 walk-can : (next : Option Phase) (call : Call) (answer : Reply) → IsToCome call answer → can_have call kinds.Walk (answer_of_walk (Short answer) next) ≡ true
 walk-can next call answer to_come =
     let Can : Option Reply → Call → Type 0 = λ reply c. can_have c kinds.Walk reply ≡ true in
-    answered-holds (λ reply. Can reply call) answer next (to_come-holds (λ c a. Can (Some a) c) call answer to_come (λ l. refl) (λ l. refl) (λ l. refl) (λ v prio. refl))
-    (to_come-holds (λ c a. Can None c) call answer to_come (λ l. refl) (λ l. refl) (λ l. refl) (λ v prio. refl))
+    answered-holds (λ reply. Can reply call) answer next (to_come-holds (λ c a. Can (Some a) c) call answer to_come (λ l. refl) (λ l. refl) (λ l. refl) (λ l. refl) (λ v prio. refl))
+    (to_come-holds (λ c a. Can None c) call answer to_come (λ l. refl) (λ l. refl) (λ l. refl) (λ l. refl) (λ v prio. refl))
 
 walkend-can : (call : Call) (answer : Reply) → IsToCome call answer → can_have call kinds.WalkEnd (Some answer) ≡ true
-walkend-can call answer to_come = to_come-holds (λ c a. can_have c kinds.WalkEnd (Some a) ≡ true) call answer to_come (λ l. refl) (λ l. refl) (λ l. refl) (λ v prio. refl)
+walkend-can call answer to_come = to_come-holds (λ c a. can_have c kinds.WalkEnd (Some a) ≡ true) call answer to_come (λ l. refl) (λ l. refl) (λ l. refl) (λ l. refl) (λ v prio. refl)
 
-signal-can : (u : TaskId) (woke : Bool) → can_have (calls.Signal u) kinds.Wake (Some (cond woke replies.Woke replies.Missed)) ≡ true
-signal-can u true = refl
-signal-can u false = refl
+-- a wakeup and a signal say whether they woke
+waking-can : (woke : Bool) → can_have_waking kinds.Wake (Some (cond woke replies.Woke replies.Missed)) ≡ true
+waking-can true = refl
+waking-can false = refl
 
 -- ---- events
 
@@ -135,18 +143,36 @@ in_call s t phase call e x at is can names = record { call = call; at = at.calli
 
 -- and in one of a call that waits
 asks_call : (s : State) (t : TaskId) (phase : Phase) (l : LockId) (e x : Event) → Asks s t phase l → e ≡ x → can_have_waiting x.kind x.reply ≡ true
-    → NamesFor x.kind (thread_part s t).cpu (calls.Lock l) x → NamesFor x.kind (thread_part s t).cpu (calls.LockInt l) x → IsAtCall s t e
-asks_call s t phase l e x asks is can lock lockint =
-    in_call s t phase asks.call e x asks.at is (can-waiting asks.call l x.kind x.reply asks.waits_for can) (waits-holds (λ c. NamesFor x.kind (thread_part s t).cpu c x) asks.call l asks.waits_for lock lockint)
+    → NamesFor x.kind (thread_part s t).cpu (calls.Lock l) x → NamesFor x.kind (thread_part s t).cpu (calls.LockInt l) x → NamesFor x.kind (thread_part s t).cpu (calls.Spin l) x → IsAtCall s t e
+asks_call s t phase l e x asks is can lock lockint spin =
+    in_call s t phase asks.call e x asks.at is (can-waiting asks.call l x.kind x.reply asks.waits_for can) (waits-holds (λ c. NamesFor x.kind (thread_part s t).cpu c x) asks.call l asks.waits_for lock lockint spin)
 
 -- of a task that gets the lock
-got_call : (s : State) (t : TaskId) (l : LockId) (e x : Event) → IsAcquiring s t l → e ≡ x → IsOfCall (thread_part s t).cpu (calls.Lock l) x → IsOfCall (thread_part s t).cpu (calls.LockInt l) x
-    → IsOfCall (thread_part s t).cpu (calls.TryLock l) x → IsAtCall s t e
-got_call s t l e x acquiring is lock lockint tries = record { call = acquiring.call; at = acquiring.calling; of = subst (IsOfCall (thread_part s t).cpu acquiring.call) (sym is) (by_call acquiring.acquires) }
+got_call : (s : State) (t : TaskId) (l : LockId) (e x : Event) → IsAcquiring s t l → e ≡ x
+    → ((call : Call) → can_have call x.kind x.reply ≡ true → called_lock (thread_part s t).cpu call ≡ Some l → called_task call ≡ None → called_number call ≡ 0 → IsOfCall (thread_part s t).cpu call x)
+    → can_have_waiting x.kind x.reply ≡ true → can_have_trying x.kind x.reply ≡ true → IsAtCall s t e
+got_call s t l e x at is names waiting trying = record { call = at.call; at = at.calling; of = subst (IsOfCall (thread_part s t).cpu at.call) (sym is) (by_call at.acquires) }
   where
-    by_call : IsAcquireOf l acquiring.call → IsOfCall (thread_part s t).cpu acquiring.call x
-    by_call (inl waits_for) = waits-holds (λ c. IsOfCall (thread_part s t).cpu c x) acquiring.call l waits_for lock lockint
-    by_call (inr same) = subst (λ (call : Call). IsOfCall (thread_part s t).cpu call x) (sym same) tries
+    by_call : IsAcquireOf l at.call → IsOfCall (thread_part s t).cpu at.call x
+    by_call (inl waits_for) =
+        names at.call (can-waiting at.call l x.kind x.reply waits_for waiting) (waits-called (thread_part s t).cpu at.call l waits_for)
+        (waits-holds (λ c. called_task c ≡ None) at.call l waits_for refl refl refl) (waits-holds (λ c. called_number c ≡ 0) at.call l waits_for refl refl refl)
+    by_call (inr tries) =
+        names at.call (tries-holds (λ c. can_have c x.kind x.reply ≡ true) at.call l tries trying trying) (tries-holds (λ c. called_lock (thread_part s t).cpu c ≡ Some l) at.call l tries refl refl)
+        (tries-holds (λ c. called_task c ≡ None) at.call l tries refl refl) (tries-holds (λ c. called_number c ≡ 0) at.call l tries refl refl)
+
+-- of one that tries, and may not have it
+busy_call : (s : State) (t : TaskId) (l : LockId) (e : Event) → IsBusy s t l e → IsAtCall s t e
+busy_call s t l e is =
+    in_call s t phases.Start is.at.call e _ is.at.at is.event (tries-holds (λ c. can_have c kinds.Busy (Some replies.Busy) ≡ true) is.at.call l is.at.tries_for refl refl)
+    (tries-holds (λ c. NamesFor kinds.Busy (thread_part s t).cpu c (busy_event t l (owner_part s l))) is.at.call l is.at.tries_for (refl, refl, refl) (refl, refl, refl))
+
+-- of one that releases it
+done_call : (s : State) (t : TaskId) (l : LockId) (e x : Event) → Returns s t l → e ≡ x → can_have_releasing x.kind x.reply ≡ true
+    → NamesFor x.kind (thread_part s t).cpu (calls.Unlock l) x → NamesFor x.kind (thread_part s t).cpu (calls.Unspin l) x → IsAtCall s t e
+done_call s t l e x at is can unlock unspin =
+    in_call s t phases.Start at.call e x at.at is (releases-holds (λ c. can_have c x.kind x.reply ≡ true) at.call l at.releases can can)
+    (releases-holds (λ c. NamesFor x.kind (thread_part s t).cpu c x) at.call l at.releases unlock unspin)
 
 -- of a walk, which has an answer where a short one ends
 walk_call : (s : State) (t : TaskId) (route : Route) (u : TaskId) (next : Option Phase) (e x : Event) → WalksIn s t route u → e ≡ x → x.reply ≡ answer_of_walk route next
@@ -154,7 +180,7 @@ walk_call : (s : State) (t : TaskId) (route : Route) (u : TaskId) (next : Option
     → can_have_waiting x.kind None ≡ true → ((call : Call) (answer : Reply) → IsToCome call answer → can_have call x.kind (answer_of_walk (Short answer) next) ≡ true) → IsAtCall s t e
 walk_call s t route u next e x (by_full path l same asks) is reply names waits short =
     let none : x.reply ≡ None = reply ∙ ap (λ (r : Route). answer_of_walk r next) same in
-    asks_call s t _ l e x asks is (ap (can_have_waiting x.kind) none ∙ waits) (names (calls.Lock l)) (names (calls.LockInt l))
+    asks_call s t _ l e x asks is (ap (can_have_waiting x.kind) none ∙ waits) (names (calls.Lock l)) (names (calls.LockInt l)) (names (calls.Spin l))
 walk_call s t route u next e x (by_short call answer same at to_come) is reply names waits short =
     let ends : x.reply ≡ answer_of_walk (Short answer) next = reply ∙ ap (λ (r : Route). answer_of_walk r next) same in
     in_call s t _ call e x at is (ap (can_have call x.kind) ends ∙ short call answer to_come) (names call)
@@ -165,28 +191,29 @@ left_call s t l e (by_leave is) =
     in_call s t phases.Wait (calls.LockInt l) e _ is.at is.event (answered-holds (λ reply. can_have (calls.LockInt l) kinds.Leave reply ≡ true) replies.Interrupted _ refl refl) (refl, refl, refl)
 left_call s t l e (by_cycle path o m rest is round owned) =
     asks_call s t (phases.Confirm path) l e _ is.at (left-is s t l e (by_cycle path o m rest is round owned)) (answered-holds (λ reply. can_have_waiting kinds.Cycle reply ≡ true) replies.Deadlock _ refl refl)
-    (refl, refl, refl) (refl, refl, refl)
+    (refl, refl, refl) (refl, refl, refl) (refl, refl, refl)
 
 its_call : (s : State) (made : ℕ) (t : TaskId) (e : Event) → IsLawful s made → IsNext s t e → IsAtCall s t e
-its_call s made t e lawful (by_own call answer is) = record { call = call; at = is.at.calling; of = own-of s t call answer e lawful.stage is }
+its_call s made t e lawful (by_own call answer is) = record { call = call; at = is.at.calling; of = own-of s t call answer e is }
 its_call s made t e lawful (by_acquire l (is_fast is)) =
-    got_call s t l e _ (fast-acquiring s t l is.how) is.event (record { can = refl; names = (refl, refl, refl) }) (record { can = refl; names = (refl, refl, refl) })
-    (record { can = refl; names = (refl, refl, refl) })
+    got_call s t l e _ (fast-acquiring s t l is.how) is.event (λ call can lock task number. record { can = can; names = (sym lock, sym task, sym number) }) refl refl
 its_call s made t e lawful (by_acquire l (is_take is)) =
-    got_call s t l e _ (take-acquiring s t l is.how) is.event (record { can = refl; names = (refl, refl, refl) }) (record { can = refl; names = (refl, refl, refl) })
-    (record { can = refl; names = (refl, refl, refl) })
-its_call s made t e lawful (by_acquire l (is_mark is)) = asks_call s t _ l e _ is.at is.event refl (refl, refl, refl) (refl, refl, refl)
-its_call s made t e lawful (by_acquire l (is_busy is)) = in_call s t _ _ e _ is.at is.event refl (refl, refl, refl)
-its_call s made t e lawful (by_wait l (is_wait is)) = asks_call s t _ l e _ is.at is.event refl (refl, refl, refl) (refl, refl, refl)
-its_call s made t e lawful (by_wait l (is_again is)) = asks_call s t _ l e _ is.at is.event refl (refl, refl, refl) (refl, refl, refl)
+    got_call s t l e _ (take-acquiring s t l is.how) is.event (λ call can lock task number. record { can = can; names = (sym lock, sym task, sym number) }) refl refl
+its_call s made t e lawful (by_acquire l (is_mark is)) = asks_call s t _ l e _ is.at is.event refl (refl, refl, refl) (refl, refl, refl) (refl, refl, refl)
+its_call s made t e lawful (by_acquire l (is_busy is)) = busy_call s t l e is
+its_call s made t e lawful (by_wait l (is_wait is)) = asks_call s t _ l e _ is.at is.event refl (refl, refl, refl) (refl, refl, refl) (refl, refl, refl)
+its_call s made t e lawful (by_wait l (is_again is)) = asks_call s t _ l e _ is.at is.event refl (refl, refl, refl) (refl, refl, refl) (refl, refl, refl)
 its_call s made t e lawful (by_wait l (is_leave is)) = left_call s t l e (leave-left s t l e is)
-its_call s made t e lawful (by_release l (is_free is)) = in_call s t _ _ e _ is.at is.event refl (refl, refl, refl)
-its_call s made t e lawful (by_release l (is_give is)) = in_call s t _ _ e _ is.at is.event refl (refl, refl, refl)
+its_call s made t e lawful (by_release l (is_free is)) = done_call s t l e _ is.at is.event refl (refl, refl, refl) (refl, refl, refl)
+its_call s made t e lawful (by_release l (is_give is)) = done_call s t l e _ is.at is.event refl (refl, refl, refl) (refl, refl, refl)
 its_call s made t e lawful (by_walk route u (is_walk l key is)) = walk_call s t route u _ e _ is.how is.event refl (λ call. (refl, refl, refl)) refl (walk-can _)
 its_call s made t e lawful (by_walk route u (is_walkend is)) = walk_call s t route u None e _ is.how is.event refl (λ call. (refl, refl, refl)) refl walkend-can
-its_call s made t e lawful (by_confirm l path (is_restart link is)) = asks_call s t _ l e _ is.at is.event refl (refl, refl, refl) (refl, refl, refl)
+its_call s made t e lawful (by_confirm l path (is_restart link is)) = asks_call s t _ l e _ is.at is.event refl (refl, refl, refl) (refl, refl, refl) (refl, refl, refl)
 its_call s made t e lawful (by_confirm l path (is_cycle is)) = left_call s t l e (cycle-left s made t l path e lawful is)
-its_call s made t e lawful (by_signal u is) = in_call s t _ _ e _ is.at is.event (signal-can u _) (refl, refl, refl)
+its_call s made t e lawful (by_wakeup (is_state state is)) = in_call s t _ _ e _ is.at is.event refl (refl, refl, refl)
+its_call s made t e lawful (by_wakeup (is_sched is)) = in_call s t _ _ e _ is.at is.event refl (refl, refl, refl)
+its_call s made t e lawful (by_wakeup (is_wake u is)) = in_call s t _ _ e _ is.at is.event (waking-can _) (refl, refl, refl)
+its_call s made t e lawful (by_wakeup (is_signal u is)) = in_call s t _ _ e _ is.at is.event (waking-can _) (refl, refl, refl)
 its_call s made t e lawful (by_setprio u prio is) =
     in_call s t _ _ e _ is.at is.event (answered-holds (λ reply. can_have (calls.SetPrio u prio) kinds.SetPrio reply ≡ true) replies.Done _ refl refl) (refl, refl, refl)
 
@@ -221,7 +248,10 @@ of-walk s e (by_release l (is_free is)) walks = absurd (other_kind is_of_walk e 
 of-walk s e (by_release l (is_give is)) walks = absurd (other_kind is_of_walk e _ is.event refl walks)
 of-walk s e (by_confirm l path (is_restart link is)) walks = absurd (other_kind is_of_walk e _ is.event refl walks)
 of-walk s e (by_confirm l path (is_cycle is)) walks = absurd (other_kind is_of_walk e _ is.event refl walks)
-of-walk s e (by_signal u is) walks = absurd (other_kind is_of_walk e _ is.event refl walks)
+of-walk s e (by_wakeup (is_state state is)) walks = absurd (other_kind is_of_walk e _ is.event refl walks)
+of-walk s e (by_wakeup (is_sched is)) walks = absurd (other_kind is_of_walk e _ is.event refl walks)
+of-walk s e (by_wakeup (is_wake u is)) walks = absurd (other_kind is_of_walk e _ is.event refl walks)
+of-walk s e (by_wakeup (is_signal u is)) walks = absurd (other_kind is_of_walk e _ is.event refl walks)
 of-walk s e (by_setprio u prio is) walks = absurd (other_kind is_of_walk e _ is.event refl walks)
 
 -- ---- what an event leaves of a thread's count

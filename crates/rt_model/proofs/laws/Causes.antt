@@ -28,7 +28,7 @@ use Rattle.rt_model.specs.events.Own.{unless_nested, if_held, if_not_held}
 use Rattle.rt_model.specs.events.Wait.{phase_after_wait, leave_event}
 use Rattle.rt_model.specs.events.Walk.{walk_event, cycle_event, phase_after_link, phase_after_end}
 use Rattle.rt_model.specs.events.Wakeups.{setprio_event}
-use Rattle.rt_model.specs.steps.Task.{is_interruptible, signal_answer}
+use Rattle.rt_model.specs.steps.Task.{sleeps, is_interruptible, wake_answer, signal_answer}
 use Rattle.rt_model.specs.steps.Thread.{answered_with}
 use Rattle.rt_model.specs.Effect.{Around, around}
 use Rattle.rt_model.specs.Rules.{touched}
@@ -37,11 +37,12 @@ use Rattle.rt_model.specs.Run.{after, IsRun}
 use Rattle.rt_model.specs.laws.Causes.{IsCause}
 use Rattle.rt_model.specs.laws.Lawful.{IsLawful}
 use Rattle.rt_model.specs.laws.Rows.{key_at}
+use Rattle.rt_model.proofs.Calm.{wakeup-holds, wakeup-task}
 use Rattle.rt_model.proofs.Numbers.{other_number, at_each_task}
 use Rattle.rt_model.proofs.Leaves.{IsLeft, leave-left, cycle-left, left-locks, left-own_blocked}
 use Rattle.rt_model.proofs.Queues.{row_of-without_other}
 use Rattle.rt_model.proofs.Routes.{full-holds, short-holds}
-use Rattle.rt_model.proofs.NextEvents.{IsNext, by_own, by_acquire, by_wait, by_release, by_walk, by_confirm, by_signal, by_setprio}
+use Rattle.rt_model.proofs.NextEvents.{IsNext, by_own, by_acquire, by_wait, by_release, by_walk, by_confirm, by_wakeup, by_setprio}
 use Rattle.rt_model.proofs.Lawful.{IsLawful-next}
 use Rattle.rt_model.proofs.PartsAfter.{thread-own, thread-other}
 use Rattle.rt_model.proofs.Waiters.{walk-phase}
@@ -221,7 +222,8 @@ module _ (s : State) (t : TaskId) (e : Event) (answer : Reply) (u : TaskId) (of 
       let x : Event = cycle_event t path (lock_at (shared s) (first_lock path)) (task_at (shared s) (first_owner path)) in
       let both = starts x replies.Deadlock (first_owner path) (around_left s x).owner is.event refl refl in
       begun (ended_cycle l path (sym both.0) is) both.1
-  comes (by_signal v is) = answered _ is.event refl (λ n. cc)
+  comes (by_wakeup is) =
+      answered e refl (wakeup-task s t e is) (wakeup-holds (λ x. x.reply ≡ None → ⊥) s t e is (λ state n. cc) (λ n. cc) (λ v n. cc) (λ v n. cc))
   comes (by_setprio v prio is) =
       let x : Event = setprio_event t v prio (task_part s v) in
       absurd (done_short (starts x replies.Done (Some v) (around_left s x).other is.event refl refl).0)
@@ -244,6 +246,9 @@ full-unanswered path b next is = cc
 abbrev of_reply : Option Reply → Bool
 of_reply None = false
 of_reply (Some answer) = of_wait answer
+
+wake-other : (task : TaskPart) → of_wait (wake_answer task) ≡ false
+wake-other task = cond_both (sleeps task.state || sleeps task.saved) Woke Missed (λ answer. of_wait answer ≡ false) (λ its. refl) (λ its. refl)
 
 signal-other : (task : TaskPart) → of_wait (signal_answer task) ≡ false
 signal-other task = cond_both (is_interruptible task.state || is_interruptible task.saved) Woke Missed (λ answer. of_wait answer ≡ false) (λ its. refl) (λ its. refl)
@@ -276,18 +281,30 @@ module _ (s : State) (t : TaskId) (e : Event) (answer : Reply) (of : of_wait ans
   answers (by_walk route u (is_walkend is)) = short_done route u _ is.how (told _ is.event)
   answers (by_confirm l path (is_restart link is)) = other _ is.event refl
   answers (by_confirm l path (is_cycle is)) = by_ending (ended_cycle l path (sym (walk-answer replies.Deadlock answer _ (told _ is.event))) is)
-  answers (by_signal u is) = other _ is.event (signal-other (task_part s u))
+  answers (by_wakeup is) =
+      other e refl
+      (wakeup-holds (λ x. of_reply x.reply ≡ false) s t e is (λ state. refl) refl (λ u. wake-other (task_part s u)) (λ u. signal-other (task_part s u)))
   answers (by_setprio u prio is) = let never : of_wait replies.Done ≡ true = subst (λ (b : Reply). of_wait b ≡ true) (sym (walk-answer replies.Done answer _ (told _ is.event))) of in absurd cc
 
 -- ---- what a thread answers at once
 
+spin-held : (held : Bool) (answer : Reply) → if_held held ≡ Some answer → (answer ≡ replies.Deadlock) × (held ≡ true)
+spin-held true answer is = (sym (some-same is), refl)
+spin-held false answer is = cc
+
 nested-held : (nested : ℕ) (held : Bool) (answer : Reply) → unless_nested nested (if_held held) ≡ Some answer → of_wait answer ≡ true → (answer ≡ replies.Deadlock) × (held ≡ true)
-nested-held nested held answer is of = by_tests (nat_lt 0 nested) held is
+nested-held nested held answer is of = by_test (nat_lt 0 nested) is
   where
-    by_tests : (b h : Bool) → cond b (Some replies.Nesting) (if_held h) ≡ Some answer → (answer ≡ replies.Deadlock) × (h ≡ true)
-    by_tests true h is = let nesting : of_wait replies.Nesting ≡ of_wait answer = ap of_wait (some-same is) in absurd cc
-    by_tests false true is = (sym (some-same is), refl)
-    by_tests false false is = cc
+    by_test : (b : Bool) → cond b (Some replies.Nesting) (if_held held) ≡ Some answer → (answer ≡ replies.Deadlock) × (held ≡ true)
+    by_test true is = let nesting : of_wait replies.Nesting ≡ of_wait answer = ap of_wait (some-same is) in absurd cc
+    by_test false is = spin-held held answer is
+
+passed-other : (nested : ℕ) (answer : Reply) → unless_nested nested None ≡ Some answer → of_wait answer ≡ true → ⊥
+passed-other nested answer is of = by_test (nat_lt 0 nested) is
+  where
+    by_test : (b : Bool) → cond b (Some replies.Nesting) None ≡ Some answer → ⊥
+    by_test true is = let nesting : of_wait replies.Nesting ≡ of_wait answer = ap of_wait (some-same is) in cc
+    by_test false is = cc
 
 released-other : (held : Bool) (answer : Reply) → if_not_held held ≡ Some answer → of_wait answer ≡ true → ⊥
 released-other true answer is of = cc
@@ -301,8 +318,14 @@ IsOnHeld s t e = (l : LockId) × (e.lock ≡ Some l) × ((hold_of (thread_part s
 pub own-held : (s : State) (t : TaskId) (call : Call) (answer : Reply) (e : Event) → IsOwn s t call answer e → of_wait answer ≡ true → (answer ≡ replies.Deadlock) × IsOnHeld s t e
 own-held s t (calls.Lock l) answer e is of = let both = nested-held _ _ answer is.why of in (both.0, (l, ap (λ (x : Event). x.lock) is.event, both.1))
 own-held s t (calls.LockInt l) answer e is of = let both = nested-held _ _ answer is.why of in (both.0, (l, ap (λ (x : Event). x.lock) is.event, both.1))
+own-held s t (calls.Spin l) answer e is of = let both = spin-held _ answer is.why in (both.0, (l, ap (λ (x : Event). x.lock) is.event, both.1))
 own-held s t (calls.Unlock l) answer e is of = absurd (released-other _ answer is.why of)
+own-held s t (calls.Unspin l) answer e is of = absurd (released-other _ answer is.why of)
+own-held s t calls.Schedule answer e is of = absurd (passed-other _ answer is.why of)
 own-held s t (calls.TryLock l) answer e is of = let why = is.why in cc
+own-held s t (calls.TrySpin l) answer e is of = let why = is.why in cc
+own-held s t (calls.State state) answer e is of = let why = is.why in cc
+own-held s t (calls.Wake u) answer e is of = let why = is.why in cc
 own-held s t (calls.Signal u) answer e is of = let why = is.why in cc
 own-held s t (calls.SetPrio u prio) answer e is of = let why = is.why in cc
 own-held s t _ answer e is of = absurd is.at.served

@@ -17,11 +17,12 @@ use Rattle.rt_model.specs.Path.{first_task, links_of, IsCycle}
 use Rattle.rt_model.specs.laws.Lawful.{IsLawful}
 use Rattle.rt_model.specs.laws.Responsible.{IsAlong, IsResponsible}
 use Rattle.rt_model.specs.laws.Cycles.{IsPast, IsWalkAlong, TellsCycle, BreaksCycle, NamesBroken, CyclesLaw}
-use Rattle.rt_model.proofs.NextEvents.{IsNext, by_own, by_acquire, by_wait, by_release, by_walk, by_confirm, by_signal, by_setprio, task-IsNext}
+use Rattle.rt_model.proofs.Calm.{wakeup-at}
+use Rattle.rt_model.proofs.NextEvents.{IsNext, by_own, by_acquire, by_wait, by_release, by_walk, by_confirm, by_wakeup, by_setprio, task-IsNext}
 use Rattle.rt_model.proofs.Sorts.{Sort, unsorted, begins, breaks, heeds, is_sorted, sort}
 use Rattle.rt_model.proofs.PartsAfter.{thread-other}
 use Rattle.rt_model.proofs.Waiters.{blocking}
-use Rattle.rt_model.proofs.events.Acquire.{AcquiresIn, by_lock, by_trylock, TakesIn, from_slow, from_wait, from_trylock, is_fast, is_mark, is_take, is_busy}
+use Rattle.rt_model.proofs.events.Acquire.{AcquiresIn, by_lock, by_trying, TakesIn, from_slow, from_wait, from_trying, is_fast, is_mark, is_take, is_busy}
 use Rattle.rt_model.proofs.events.Release.{is_free, is_give}
 use Rattle.rt_model.proofs.events.Wait.{is_wait, is_again, is_leave}
 use Rattle.rt_model.proofs.events.Walk.{WalksIn, by_full, by_short, IsWalk, is_walk, IsWalkEnd, is_walkend, is_restart, is_cycle}
@@ -80,11 +81,11 @@ module _ (s : State) (made : ℕ) (t : TaskId) (e : Event) (cycle : List (ℕ ×
   taken : (l : LockId) → TakesIn s t l → ⊥
   taken l (from_slow asks) = at_phase phases.Slow asks.at.phased
   taken l (from_wait asks awake) = at_phase phases.Wait asks.at.phased
-  taken l (from_trylock at) = at_phase phases.Start at.phased
+  taken l (from_trying at) = at_phase phases.Start at.at.phased
 
   acquired : (l : LockId) → AcquiresIn s t l → ⊥
   acquired l (by_lock asks unheld) = at_phase phases.Start asks.at.phased
-  acquired l (by_trylock at) = at_phase phases.Start at.phased
+  acquired l (by_trying at) = at_phase phases.Start at.at.phased
 
   pub follows : Follows
   follows = by_family next
@@ -94,12 +95,12 @@ module _ (s : State) (made : ℕ) (t : TaskId) (e : Event) (cycle : List (ℕ ×
       by_family (by_acquire l (is_fast is)) = absurd (acquired l is.how)
       by_family (by_acquire l (is_mark is)) = absurd (at_phase phases.Start is.at.at.phased)
       by_family (by_acquire l (is_take is)) = absurd (taken l is.how)
-      by_family (by_acquire l (is_busy is)) = absurd (at_phase phases.Start is.at.phased)
+      by_family (by_acquire l (is_busy is)) = absurd (at_phase phases.Start is.at.at.phased)
       by_family (by_wait l (is_wait is)) = absurd (at_phase phases.Slow is.at.at.phased)
       by_family (by_wait l (is_again is)) = absurd (at_phase phases.Wait is.at.at.phased)
       by_family (by_wait l (is_leave is)) = absurd (at_phase phases.Wait is.at.phased)
-      by_family (by_release l (is_free is)) = absurd (at_phase phases.Start is.at.phased)
-      by_family (by_release l (is_give is)) = absurd (at_phase phases.Start is.at.phased)
+      by_family (by_release l (is_free is)) = absurd (at_phase phases.Start is.at.at.phased)
+      by_family (by_release l (is_give is)) = absurd (at_phase phases.Start is.at.at.phased)
       by_family (by_walk route u (is_walk l key is)) = linked route u l key is
       by_family (by_walk route u (is_walkend is)) = ended route u is
       by_family (by_confirm l path (is_restart link is)) =
@@ -107,7 +108,7 @@ module _ (s : State) (made : ℕ) (t : TaskId) (e : Event) (cycle : List (ℕ ×
           let some = is.broken in cc
       by_family (by_confirm l path (is_cycle is)) =
           inr (record { kind = ap (λ (x : Event). x.kind) is.event; path = ap (λ (x : Event). x.path) is.event ∙ confirm-whole s cycle t stands responsible first path is.at.at.phased })
-      by_family (by_signal u is) = absurd (at_phase phases.Start is.at.phased)
+      by_family (by_wakeup is) = absurd (at_phase phases.Start (wakeup-at s t e is).1.phased)
       by_family (by_setprio u prio is) = absurd (at_phase phases.Start is.at.phased)
 
 -- another task's event leaves it responsible

@@ -16,11 +16,12 @@ use Rattle.rt_model.specs.Run.{after, IsRun}
 use Rattle.rt_model.specs.laws.Lawful.{IsLawful}
 use Rattle.rt_model.specs.laws.Owners.{owned_by}
 use Rattle.rt_model.specs.laws.Holders.{acquires, releases, owner_after, is_on, holders_of, HoldersLaw}
-use Rattle.rt_model.proofs.NextEvents.{IsNext, by_own, by_acquire, by_wait, by_release, by_walk, by_confirm, by_signal, by_setprio}
+use Rattle.rt_model.proofs.NextEvents.{IsNext, by_own, by_acquire, by_wait, by_release, by_walk, by_confirm, by_wakeup, by_setprio}
 use Rattle.rt_model.proofs.events.Acquire.{is_fast, is_mark, is_take, is_busy}
 use Rattle.rt_model.proofs.events.Wait.{is_wait, is_again, is_leave}
 use Rattle.rt_model.proofs.events.Release.{is_free, is_give}
 use Rattle.rt_model.proofs.events.Walk.{is_walk, is_walkend, is_restart, is_cycle}
+use Rattle.rt_model.proofs.events.Wakeups.{is_state, is_sched, is_wake, is_signal}
 use Rattle.rt_model.proofs.Links.{requeued-owner}
 use Rattle.rt_model.proofs.PartsAfter.{read-update, read-update_other, kept-at}
 use Rattle.rt_model.proofs.Numbers.{same_lock, same_task}
@@ -108,7 +109,10 @@ acquires-free s t e l (by_walk route u (is_walk m key is)) named gets = absurd (
 acquires-free s t e l (by_walk route u (is_walkend is)) named gets = absurd (other_kind acquires e _ is.event refl gets)
 acquires-free s t e l (by_confirm k path (is_restart link is)) named gets = absurd (other_kind acquires e _ is.event refl gets)
 acquires-free s t e l (by_confirm k path (is_cycle is)) named gets = absurd (other_kind acquires e _ is.event refl gets)
-acquires-free s t e l (by_signal u is) named gets = absurd (other_kind acquires e _ is.event refl gets)
+acquires-free s t e l (by_wakeup (is_state state is)) named gets = absurd (other_kind acquires e _ is.event refl gets)
+acquires-free s t e l (by_wakeup (is_sched is)) named gets = absurd (other_kind acquires e _ is.event refl gets)
+acquires-free s t e l (by_wakeup (is_wake u is)) named gets = absurd (other_kind acquires e _ is.event refl gets)
+acquires-free s t e l (by_wakeup (is_signal u is)) named gets = absurd (other_kind acquires e _ is.event refl gets)
 acquires-free s t e l (by_setprio u prio is) named gets = absurd (other_kind acquires e _ is.event refl gets)
 
 owned_by-some : (owner : Option TaskId) (t : TaskId) → owned_by owner t ≡ true → owner ≡ Some t
@@ -135,7 +139,10 @@ releases-own s made t e l lawful (by_walk route u (is_walk m key is)) named gone
 releases-own s made t e l lawful (by_walk route u (is_walkend is)) named gone = absurd (other_kind releases e _ is.event refl gone)
 releases-own s made t e l lawful (by_confirm k path (is_restart link is)) named gone = absurd (other_kind releases e _ is.event refl gone)
 releases-own s made t e l lawful (by_confirm k path (is_cycle is)) named gone = absurd (other_kind releases e _ is.event refl gone)
-releases-own s made t e l lawful (by_signal u is) named gone = absurd (other_kind releases e _ is.event refl gone)
+releases-own s made t e l lawful (by_wakeup (is_state state is)) named gone = absurd (other_kind releases e _ is.event refl gone)
+releases-own s made t e l lawful (by_wakeup (is_sched is)) named gone = absurd (other_kind releases e _ is.event refl gone)
+releases-own s made t e l lawful (by_wakeup (is_wake u is)) named gone = absurd (other_kind releases e _ is.event refl gone)
+releases-own s made t e l lawful (by_wakeup (is_signal u is)) named gone = absurd (other_kind releases e _ is.event refl gone)
 releases-own s made t e l lawful (by_setprio u prio is) named gone = absurd (other_kind releases e _ is.event refl gone)
 
 -- ---- over a run, from a state in which nobody owns a lock

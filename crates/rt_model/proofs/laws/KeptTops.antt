@@ -24,12 +24,13 @@ use Rattle.rt_model.specs.laws.Lawful.{IsLawful}
 use Rattle.rt_model.specs.laws.KeptTops.{KeptTopsLaw, kept_of}
 use Rattle.rt_model.specs.laws.Owners.{owned_by}
 use Rattle.rt_model.proofs.CellStepLemmas.{leave_queue-like, interrupted-like, woken_by-like, lock_woken-like, blocked_on-like, where_changed}
-use Rattle.rt_model.proofs.NextEvents.{IsNext, by_own, by_acquire, by_wait, by_release, by_walk, by_confirm, by_signal, by_setprio}
+use Rattle.rt_model.proofs.NextEvents.{IsNext, by_own, by_acquire, by_wait, by_release, by_walk, by_confirm, by_wakeup, by_setprio}
 use Rattle.rt_model.proofs.events.Acquire.{IsTake, is_fast, is_mark, is_take, is_busy}
 use Rattle.rt_model.proofs.events.Wait.{IsWait, is_wait, is_again, is_leave}
 use Rattle.rt_model.proofs.events.Release.{IsGive, is_free, is_give}
 use Rattle.rt_model.proofs.events.Walk.{IsWalk, is_walk, is_walkend, is_restart, is_cycle}
 use Rattle.rt_model.proofs.Calling.{asks-lock}
+use Rattle.rt_model.proofs.Calm.{wakeup-kind, wakeup-locks}
 use Rattle.rt_model.proofs.Leaves.{IsLeft, left_made, left-is, leave-left, cycle-left, left-unowned, left-lock_there, left-locks, left-own_like, left-others}
 use Rattle.rt_model.proofs.Links.{requeued-owner, link_refreshed, link-like}
 use Rattle.rt_model.proofs.PartsAfter.{read-set_same, read-set_other, OthersKeep, lock-made, lock-kept, task-keeps, own-made, owner-made}
@@ -206,9 +207,9 @@ module _ (s : State) (made : ℕ) (t : TaskId) (e : Event) (u : TaskId) (lawful 
   give-here : (l : LockId) → IsGive s t l e → kept_of (task_part (state_after s e) u) l ≡ None
   give-here l is =
       let spinning : Bool = spins (kind_of (thread_part s t) l) in
-      own-made (λ v task. kept_of task l ≡ None) s e _ t u is.event refl (task_room s t lawful.shape is.at.task)
+      own-made (λ v task. kept_of task l ≡ None) s e _ t u is.event refl (task_room s t lawful.shape is.at.at.task)
       (record { owner = λ task was. was; other = λ task was. was; woken = λ task was. kept-same l task (lock_woken spinning task) (lock_woken-like spinning task).like.kept ∙ was })
-      (with_top-here l None (task_part s t) (kept_room s t l lawful.shape is.at.task is.at.served))
+      (with_top-here l None (task_part s t) (kept_room s t l lawful.shape is.at.at.task is.at.lock))
       (λ others. lawful.kept l u ∙ cond-false (owned_by (owner_part s l).owner u) (top_key (owner_part s l).rows) None (one_owner (owner_part s l).owner t u (sym (lawful.owners l t) ∙ is.held) others))
 
 -- kept-tops law
@@ -230,7 +231,9 @@ KeptTopsLaw-next s made t e lawful next m u = by_kind next
     by_kind (by_acquire l (is_busy is)) = lock-kept Keeps s e _ m is.event (same s made t e u lawful _ m is.event tt) (λ lock was. was)
     by_kind (by_walk route cursor (is_walkend is)) = lock-kept Keeps s e _ m is.event (same s made t e u lawful _ m is.event tt) (λ lock was. was)
     by_kind (by_confirm l path (is_restart link is)) = lock-kept Keeps s e _ m is.event (same s made t e u lawful _ m is.event tt) (λ lock was. was)
-    by_kind (by_signal target is) = lock-kept Keeps s e _ m is.event (same s made t e u lawful _ m is.event tt) (λ lock was. was)
+    by_kind (by_wakeup is) =
+        let apart : IsApartFrom m (tops_of e.kind e) = wakeup-kind (λ kind. IsApartFrom m (tops_of kind e)) s t e is tt tt tt in
+        subst Keeps (sym (wakeup-locks s t e is m)) (same s made t e u lawful e m refl apart)
     by_kind (by_setprio target prio is) = lock-kept Keeps s e _ m is.event (same s made t e u lawful _ m is.event tt) (λ lock was. was)
     by_kind (by_wait l (is_leave is)) = left l (leave-left s t l e is)
     by_kind (by_confirm l path (is_cycle is)) = left l (cycle-left s made t l path e lawful is)
@@ -240,9 +243,10 @@ KeptTopsLaw-next s made t e lawful next m u = by_kind next
         (same s made t e u lawful _ l is.event tt ∙ (nothing (owner_part s l).rows (owned_by (owner_part s l).owner u) none ∙ sym (nothing (owner_part s l).rows (nat_eq t.0 u.0) none)))
     by_kind (by_release l (is_free is)) =
         let none : (owner_part s l).rows ≡ [] = (lawful.rows.queue l).clear is.bit in
-        on_lock s made t e u lawful _ l m is.event refl refl is.at.served (same s made t e u lawful _ l is.event tt ∙ nothing (owner_part s l).rows (owned_by (owner_part s l).owner u) none)
+        on_lock s made t e u lawful _ l m is.event refl refl is.at.lock
+        (same s made t e u lawful _ l is.event tt ∙ nothing (owner_part s l).rows (owned_by (owner_part s l).owner u) none)
     by_kind (by_acquire l (is_take is)) = on_lock s made t e u lawful _ l m is.event refl refl is.lock (take-here s made t e u lawful l is)
     by_kind (by_wait l (is_wait is)) = on_lock s made t e u lawful _ l m is.event refl refl (asks-lock s t phases.Slow l is.at) (wait-here s made t e u lawful l is)
     by_kind (by_walk route cursor (is_walk l key is)) =
         on_lock s made t e u lawful _ l m is.event refl refl (walk-link s made t route cursor l key e lawful is).lock (walk-here s made t e u lawful route cursor l key is)
-    by_kind (by_release l (is_give is)) = on_lock s made t e u lawful _ l m is.event refl refl is.at.served (give-here s made t e u lawful l is)
+    by_kind (by_release l (is_give is)) = on_lock s made t e u lawful _ l m is.event refl refl is.at.lock (give-here s made t e u lawful l is)

@@ -4,7 +4,6 @@ use Rattle.std.specs.Prelude.{nat_eq, is_some, option_map}
 use Rattle.std.proofs.lemmas.Bool.{cond_both, not-true, and_parts}
 use Rattle.rt_base.specs.Kind.{spins}
 use Rattle.rt_base.specs.declared.call.Call.{Call}
-use Rattle.rt_base.specs.declared.call.Call.TheVariants as calls
 use Rattle.rt_base.specs.declared.id.LockId.{LockId}
 use Rattle.rt_base.specs.declared.id.TaskId.{TaskId}
 use Rattle.rt_base.specs.declared.kind.Kind.{Kind}
@@ -33,11 +32,12 @@ use Rattle.rt_model.specs.laws.Owners.{owned_by}
 use Rattle.rt_model.proofs.Blocked.{blocked-other}
 use Rattle.rt_model.proofs.CellStepLemmas.{IsWoken, effective-like, leave_queue-blocked, with_top-blocked, woken_by-like, lock_woken-like, blocked_on-like, right_key}
 use Rattle.rt_model.proofs.Calling.{asks-lock}
+use Rattle.rt_model.proofs.Calm.{wakeup-kind, wakeup-task, wakeup-at}
 use Rattle.rt_model.proofs.Leaves.{IsLeft, by_leave, by_cycle, leave-left, cycle-left, left-is, left_answer, left_phase, left-asks, left-own_blocked, left-others, left-thread_own}
 use Rattle.rt_model.proofs.Links.{walked_thread, link_owner, link_woken, link-task, link-thread, end-task, setprio-task, setprio-thread}
 use Rattle.rt_model.proofs.Lists.{if_some, if_found}
-use Rattle.rt_model.proofs.NextEvents.{IsNext, by_own, by_acquire, by_wait, by_release, by_walk, by_confirm, by_signal, by_setprio}
-use Rattle.rt_model.proofs.events.Acquire.{AcquiresIn, by_lock, by_trylock, TakesIn, from_slow, from_wait, from_trylock, is_fast, is_mark, is_take, is_busy}
+use Rattle.rt_model.proofs.NextEvents.{IsNext, by_own, by_acquire, by_wait, by_release, by_walk, by_confirm, by_wakeup, by_setprio}
+use Rattle.rt_model.proofs.events.Acquire.{AcquiresIn, by_lock, by_trying, TakesIn, from_slow, from_wait, from_trying, is_fast, is_mark, is_take, is_busy}
 use Rattle.rt_model.proofs.events.Wait.{IsWait, is_wait, is_again, is_leave}
 use Rattle.rt_model.proofs.events.Release.{IsGive, is_free, is_give}
 use Rattle.rt_model.proofs.events.Walk.{WalksIn, IsWalk, IsWalkEnd, is_walk, is_walkend, IsRestart, is_restart, is_cycle}
@@ -199,12 +199,12 @@ at_walk s t u v route how other = at_phase s t u (phases.Walk v route) (walk-pha
 
 acquires_at : (s : State) (t u : TaskId) (l : LockId) → AcquiresIn s t l → Names t u (thread_part s t).phase → ⊥
 acquires_at s t u l (by_lock is unheld) = at_phase s t u phases.Start is.at.phased (λ never. never)
-acquires_at s t u l (by_trylock at) = at_phase s t u phases.Start at.phased (λ never. never)
+acquires_at s t u l (by_trying at) = at_phase s t u phases.Start at.at.phased (λ never. never)
 
 takes_at : (s : State) (t u : TaskId) (l : LockId) → TakesIn s t l → Names t u (thread_part s t).phase → ⊥
 takes_at s t u l (from_slow is) = at_phase s t u phases.Slow is.at.phased (λ never. never)
 takes_at s t u l (from_wait is awake) = at_phase s t u phases.Wait is.at.phased (λ never. never)
-takes_at s t u l (from_trylock at) = at_phase s t u phases.Start at.phased (λ never. never)
+takes_at s t u l (from_trying at) = at_phase s t u phases.Start at.at.phased (λ never. never)
 
 module _ (s : State) (made : ℕ) (t : TaskId) (e : Event) (u : TaskId) (lawful : IsLawful s made) (unnamed : IsNamed (state_after s e) u → ⊥) where
   -- where the task's walk didn't name u, no other did
@@ -251,10 +251,10 @@ module _ (s : State) (made : ℕ) (t : TaskId) (e : Event) (u : TaskId) (lawful 
   -- who gives a lock up isn't blocked
   give-key : (l : LockId) → IsGive s t l e → HasKey (task_part (state_after s e) u)
   give-key l is =
-      own-made (λ v. HasKey) s e _ t u is.event refl (task_room s t lawful.shape is.at.task)
+      own-made (λ v. HasKey) s e _ t u is.event refl (task_room s t lawful.shape is.at.at.task)
       (record { owner = λ task was. was; other = λ task was. was; woken = λ task was. woken-key (lock_woken-like (spins (kind_of (thread_part s t) l)) task) was })
-      (unblocked-key (with_top (Some l) None (task_part s t)) (start-blocked s made t lawful (calls.Unlock l) is.at))
-      (λ others. key (ap (λ (x : Event). x.task) is.event) (at_phase s t u phases.Start is.at.phased (λ never. never)))
+      (unblocked-key (with_top (Some l) None (task_part s t)) (start-blocked s made t lawful is.at.call is.at.at))
+      (λ others. key (ap (λ (x : Event). x.task) is.event) (at_phase s t u phases.Start is.at.at.phased (λ never. never)))
 
   -- a link queues its cursor with its priority, and goes on to the owner, whose priority may change, where its key is old
   link-key : (route : Route) (v : TaskId) (l : LockId) (old : ℕ) → IsWalk s t route v l old e → HasKey (task_part (state_after s e) u)
@@ -353,15 +353,17 @@ KeysLaw-next s made t e lawful next u unnamed = by_kind next
     by_kind (by_acquire l (is_fast is)) = kept-key s made t e u lawful unnamed _ is.event refl (acquires_at s t u l is.how) refl
     by_kind (by_acquire l (is_mark is)) = kept-key s made t e u lawful unnamed _ is.event refl (at_phase s t u phases.Start is.at.at.phased (λ never. never)) refl
     by_kind (by_acquire l (is_take is)) = kept-key s made t e u lawful unnamed _ is.event refl (takes_at s t u l is.how) refl
-    by_kind (by_acquire l (is_busy is)) = kept-key s made t e u lawful unnamed _ is.event refl (at_phase s t u phases.Start is.at.phased (λ never. never)) refl
+    by_kind (by_acquire l (is_busy is)) = kept-key s made t e u lawful unnamed _ is.event refl (at_phase s t u phases.Start is.at.at.phased (λ never. never)) refl
     by_kind (by_wait l (is_wait is)) = wait-key s made t e u lawful unnamed l is
     by_kind (by_wait l (is_again is)) = kept-key s made t e u lawful unnamed _ is.event refl (at_phase s t u phases.Wait is.at.at.phased (λ never. never)) refl
-    by_kind (by_release l (is_free is)) = kept-key s made t e u lawful unnamed _ is.event refl (at_phase s t u phases.Start is.at.phased (λ never. never)) refl
+    by_kind (by_release l (is_free is)) = kept-key s made t e u lawful unnamed _ is.event refl (at_phase s t u phases.Start is.at.at.phased (λ never. never)) refl
     by_kind (by_release l (is_give is)) = give-key s made t e u lawful unnamed l is
     by_kind (by_walk route v (is_walk l old is)) = link-key s made t e u lawful unnamed route v l old is
     by_kind (by_walk route v (is_walkend is)) = end-key s made t e u lawful unnamed route v is
     by_kind (by_wait l (is_leave is)) = left-key s made t e u lawful unnamed l (leave-left s t l e is)
     by_kind (by_confirm l path (is_cycle is)) = left-key s made t e u lawful unnamed l (cycle-left s made t l path e lawful is)
     by_kind (by_confirm l path (is_restart link is)) = restart-key s made t e u lawful unnamed l path link is
-    by_kind (by_signal v is) = kept-key s made t e u lawful unnamed _ is.event refl (at_phase s t u phases.Start is.at.phased (λ never. never)) refl
+    by_kind (by_wakeup is) =
+        kept-key s made t e u lawful unnamed e refl (wakeup-task s t e is) (at_phase s t u phases.Start (wakeup-at s t e is).1.phased (λ never. never))
+        (wakeup-kind (λ kind. keeps_keys kind ≡ true) s t e is refl refl refl)
     by_kind (by_setprio v prio is) = set-key s made t e u lawful unnamed v prio is

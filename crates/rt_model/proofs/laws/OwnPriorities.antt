@@ -16,8 +16,9 @@ use Rattle.rt_model.specs.Rules.{effect}
 use Rattle.rt_model.specs.StateAfter.{state_after}
 use Rattle.rt_model.specs.laws.Lawful.{IsLawful}
 use Rattle.rt_model.specs.laws.OwnPriorities.{OwnPrioritiesLaw}
+use Rattle.rt_model.proofs.Calm.{wakeup-kind}
 use Rattle.rt_model.proofs.CellStepLemmas.{IsLike, leave_queue-like, interrupted-like, woken_by-like, lock_woken-like, blocked_on-like, where_changed}
-use Rattle.rt_model.proofs.NextEvents.{IsNext, by_own, by_acquire, by_wait, by_release, by_walk, by_confirm, by_signal, by_setprio}
+use Rattle.rt_model.proofs.NextEvents.{IsNext, by_own, by_acquire, by_wait, by_release, by_walk, by_confirm, by_wakeup, by_setprio}
 use Rattle.rt_model.proofs.PartsAfter.{OthersKeep, task-keeps}
 use Rattle.rt_model.proofs.events.Acquire.{is_fast, is_mark, is_take, is_busy}
 use Rattle.rt_model.proofs.events.Wait.{is_wait, is_again, is_leave}
@@ -92,7 +93,7 @@ sets-within s t e next = by_kind next
     by_kind (by_walk route u (is_walkend is)) = written _ is.event tt
     by_kind (by_confirm l path (is_restart link is)) = written _ is.event tt
     by_kind (by_confirm l path (is_cycle is)) = written _ is.event tt
-    by_kind (by_signal u is) = written _ is.event tt
+    by_kind (by_wakeup is) = wakeup-kind (λ kind. SetsWithin kind e.value) s t e is tt tt tt
 
 -- own-priorities law
 pub OwnPrioritiesLaw-next : (s : State) (made : ℕ) (t : TaskId) (e : Event) → IsLawful s made → IsNext s t e → OwnPrioritiesLaw (state_after s e)

@@ -22,19 +22,21 @@ use Rattle.rt_model.specs.steps.Thread.{with_hold, holds_after}
 use Rattle.rt_model.specs.StateAfter.{effect_in, thread_after, state_after}
 use Rattle.rt_model.specs.Stage.{IsServed, IsPhaseOf}
 use Rattle.rt_model.specs.steps.Chain.{followed, goes_on}
-use Rattle.rt_model.specs.steps.Task.{with_own, signal_answer}
+use Rattle.rt_model.specs.steps.Task.{with_own, wake_answer, signal_answer}
 use Rattle.rt_model.specs.laws.Owners.{OwnersLaw, owned_by}
 use Rattle.rt_model.specs.laws.Lawful.{IsLawful}
 use Rattle.rt_model.proofs.Leaves.{IsLeft, by_leave, by_cycle, left_answer, left_kind, left_made, left-is, left-there, left-fits, left-thread, leave-left, cycle-left}
 use Rattle.rt_model.proofs.Links.{walked_thread, link-thread, end-thread, setprio-thread}
-use Rattle.rt_model.proofs.NextEvents.{IsNext, by_own, by_acquire, by_wait, by_release, by_walk, by_confirm, by_signal, by_setprio}
+use Rattle.rt_model.proofs.NextEvents.{IsNext, by_own, by_acquire, by_wait, by_release, by_walk, by_confirm, by_wakeup, by_setprio}
 use Rattle.rt_model.proofs.Owned.{changes_owner, owners-kept}
 use Rattle.rt_model.proofs.Routes.{walk-fits, setprio-fits, SameSort, SameSort-itself, SameSort-followed, walked-holds}
+use Rattle.rt_model.proofs.Calling.{Tries, tries-holds, Returns, releases-holds}
 use Rattle.rt_model.proofs.ToCome.{to_come-holds}
 use Rattle.rt_model.proofs.events.Acquire.{is_fast, is_mark, is_take, is_busy, IsAcquiring, fast-acquiring, take-acquiring, got-holds}
 use Rattle.rt_model.proofs.events.Walk.{is_walk, is_walkend, is_restart, is_cycle}
 use Rattle.rt_model.proofs.events.Wait.{is_wait, is_again, is_leave}
 use Rattle.rt_model.proofs.events.Release.{is_free, is_give}
+use Rattle.rt_model.proofs.events.Wakeups.{is_state, is_sched, is_wake, is_signal}
 use Rattle.rt_model.proofs.Numbers.{number_itself, same_lock, nobodys, one_owner}
 use Rattle.rt_model.proofs.Queues.{unowned-can_take}
 use Rattle.rt_model.proofs.Within.{holds_room}
@@ -52,16 +54,19 @@ read-with_hold thread l m owns lt =
     (λ is. subst (λ (n : LockId). (read n).owns ≡ owns) (same_lock l m is) (ap (λ (h : Hold). h.owns) (read-set_same thread.holds l.0 hold (record { owns = false; reads = 0 }) lt)))
     (λ is. ap (λ (h : Hold). h.owns) (read-set_other thread.holds l.0 m.0 hold (record { owns = false; reads = 0 }) is))
 
--- what a thread answers at once gives it no lock
+-- what a thread answers at once gives it no lock, and releases none
+pub held_never_got : (held : Bool) → if_held held ≡ Some replies.Got → ⊥
+held_never_got true is = cc
+held_never_got false is = cc
+
 never_got : (nested : ℕ) (held : Bool) → unless_nested nested (if_held held) ≡ Some replies.Got → ⊥
 never_got nested held is = by_test (nat_lt 0 nested) held is
   where
     by_test : (b h : Bool) → cond b (Some replies.Nesting) (if_held h) ≡ Some replies.Got → ⊥
     by_test true h is = cc
-    by_test false true is = cc
-    by_test false false is = cc
+    by_test false h is = held_never_got h is
 
-never_done : (held : Bool) → if_not_held held ≡ Some replies.Done → ⊥
+pub never_done : (held : Bool) → if_not_held held ≡ Some replies.Done → ⊥
 never_done true is = cc
 never_done false is = cc
 
@@ -74,6 +79,14 @@ refused_holds m n thread (calls.LockInt l) _ kind nested held migration served i
 refused_holds m n thread (calls.TryLock l) answer kind nested held migration served is = cc
 refused_holds m n thread (calls.Unlock l) replies.Done kind nested held migration served is = absurd (never_done held is)
 refused_holds m n thread (calls.Unlock l) _ kind nested held migration served is = refl
+refused_holds m n thread (calls.Spin l) replies.Got kind nested held migration served is = absurd (held_never_got held is)
+refused_holds m n thread (calls.Spin l) _ kind nested held migration served is = refl
+refused_holds m n thread (calls.TrySpin l) answer kind nested held migration served is = cc
+refused_holds m n thread (calls.Unspin l) replies.Done kind nested held migration served is = absurd (never_done held is)
+refused_holds m n thread (calls.Unspin l) _ kind nested held migration served is = refl
+refused_holds m n thread (calls.State state) answer kind nested held migration served is = refl
+refused_holds m n thread calls.Schedule answer kind nested held migration served is = refl
+refused_holds m n thread (calls.Wake u) answer kind nested held migration served is = refl
 refused_holds m n thread (calls.Signal u) answer kind nested held migration served is = refl
 refused_holds m n thread (calls.SetPrio u prio) answer kind nested held migration served is = refl
 refused_holds m n thread _ answer kind nested held migration served is = absurd served
@@ -84,7 +97,7 @@ holds_at thread call answer is = ap (λ (c : Option Call). holds_after thread c 
 
 -- nor does the answer of a short walk
 short_holds : (thread : ThreadPart) (u : TaskId) (answer : Reply) (call : Option Call) → IsPhaseOf (phases.Walk u (Short answer)) call → holds_after thread call answer ≡ thread.holds
-short_holds thread u answer (Some call) fits = to_come-holds (λ c a. holds_after thread (Some c) a ≡ thread.holds) call answer fits (λ l. refl) (λ l. refl) (λ l. refl) (λ v prio. refl)
+short_holds thread u answer (Some call) fits = to_come-holds (λ c a. holds_after thread (Some c) a ≡ thread.holds) call answer fits (λ l. refl) (λ l. refl) (λ l. refl) (λ l. refl) (λ v prio. refl)
 short_holds thread u answer None fits = absurd fits
 
 -- so a walk leaves what its thread holds
@@ -156,6 +169,15 @@ OwnersLaw-next s made t e lawful next = by_kind next
     taken : (l : LockId) → IsAcquiring s t l → holds_after (thread_part s t) (call_of (thread_part s t)) replies.Got ≡ with_hold (thread_part s t) l (owned_by (Some t) t)
     taken l acquiring = got-holds s t l acquiring ∙ ap (with_hold (thread_part s t) l) (sym (number_itself t.0))
 
+    -- who tries, and doesn't get the lock, holds what it held
+    busy-holds : (l : LockId) → Tries s t l → holds_after (thread_part s t) (call_of (thread_part s t)) replies.Busy ≡ (thread_part s t).holds
+    busy-holds l at = holds_at (thread_part s t) at.call replies.Busy at.at.calling ∙ tries-holds (λ c. holds_after (thread_part s t) (Some c) replies.Busy ≡ (thread_part s t).holds) at.call l at.tries_for refl refl
+
+    -- and who releases it doesn't hold it any more
+    done-holds : (l : LockId) → Returns s t l → holds_after (thread_part s t) (call_of (thread_part s t)) replies.Done ≡ with_hold (thread_part s t) l false
+    done-holds l at =
+        holds_at (thread_part s t) at.call replies.Done at.at.calling ∙ releases-holds (λ c. holds_after (thread_part s t) (Some c) replies.Done ≡ with_hold (thread_part s t) l false) at.call l at.releases refl refl
+
     left-keeps : (l : LockId) (is : IsLeft s t l e) → changes_owner (left_kind is) ≡ false
     left-keeps l (by_leave is) = refl
     left-keeps l (by_cycle path o m rest is round owned) = refl
@@ -177,18 +199,21 @@ OwnersLaw-next s made t e lawful next = by_kind next
         keep_owners s made e _ lawful is.event is.at.task
         (holds_at (thread_part s t) call answer is.at.calling ∙ refused_holds (length s.threads) (length s.locks) (thread_part s t) call answer _ _ _ _ is.at.served is.why) refl
     by_kind (by_acquire l (is_mark is)) = keep_owners s made e _ lawful is.event is.at.at.task refl refl
-    by_kind (by_acquire l (is_busy is)) = keep_owners s made e _ lawful is.event is.at.task (holds_at (thread_part s t) (calls.TryLock l) replies.Busy is.at.calling) refl
+    by_kind (by_acquire l (is_busy is)) = keep_owners s made e _ lawful is.event is.at.at.task (busy-holds l is.at) refl
     by_kind (by_wait l (is_wait is)) = keep_owners s made e _ lawful is.event is.at.at.task refl refl
     by_kind (by_wait l (is_again is)) = keep_owners s made e _ lawful is.event is.at.at.task refl refl
     by_kind (by_wait l (is_leave is)) = leaves l (leave-left s t l e is)
     by_kind (by_confirm l path (is_cycle is)) = leaves l (cycle-left s made t l path e lawful is)
     by_kind (by_confirm l path (is_restart link is)) = keep_owners s made e _ lawful is.event is.at.at.task refl refl
-    by_kind (by_signal u is) = keep_owners s made e _ lawful is.event is.at.task (holds_at (thread_part s t) (calls.Signal u) (signal_answer (task_part s u)) is.at.calling) refl
+    by_kind (by_wakeup (is_state state is)) = keep_owners s made e _ lawful is.event is.at.task (holds_at (thread_part s t) (calls.State state) replies.Done is.at.calling) refl
+    by_kind (by_wakeup (is_sched is)) = keep_owners s made e _ lawful is.event is.at.task (holds_at (thread_part s t) calls.Schedule replies.Done is.at.calling) refl
+    by_kind (by_wakeup (is_wake u is)) = keep_owners s made e _ lawful is.event is.at.task (holds_at (thread_part s t) (calls.Wake u) (wake_answer (task_part s u)) is.at.calling) refl
+    by_kind (by_wakeup (is_signal u is)) = keep_owners s made e _ lawful is.event is.at.task (holds_at (thread_part s t) (calls.Signal u) (signal_answer (task_part s u)) is.at.calling) refl
     by_kind (by_acquire l (is_fast is)) = change_owner s made e _ lawful is.event is.task l (Some t) refl is.lock (taken l (fast-acquiring s t l is.how)) refl (nobodys_before l is.owner)
     by_kind (by_acquire l (is_take is)) =
         change_owner s made e _ lawful is.event is.task l (Some t) refl is.lock (taken l (take-acquiring s t l is.how)) refl (nobodys_before l (unowned-can_take t (kind_of (thread_part s t) l) (owner_part s l) (task_part s t) is.can))
-    by_kind (by_release l (is_free is)) = change_owner s made e _ lawful is.event is.at.task l None refl is.at.served (holds_at (thread_part s t) (calls.Unlock l) replies.Done is.at.calling) refl (its_before l is.held)
-    by_kind (by_release l (is_give is)) = change_owner s made e _ lawful is.event is.at.task l None refl is.at.served (holds_at (thread_part s t) (calls.Unlock l) replies.Done is.at.calling) refl (its_before l is.held)
+    by_kind (by_release l (is_free is)) = change_owner s made e _ lawful is.event is.at.at.task l None refl is.at.lock (done-holds l is.at) refl (its_before l is.held)
+    by_kind (by_release l (is_give is)) = change_owner s made e _ lawful is.event is.at.at.task l None refl is.at.lock (done-holds l is.at) refl (its_before l is.held)
     by_kind (by_walk route u (is_walk l key is)) =
         walked _ u route (followed u l route) (owner_part s l).owner _ is.event is.task (link-thread s made t route u l key e lawful is) (SameSort-followed u l route) (walk-fits s t route u lawful.phases is.how) refl
     by_kind (by_walk route u (is_walkend is)) =

@@ -20,7 +20,8 @@ use Rattle.rt_model.specs.steps.Task.{with_own}
 use Rattle.rt_model.specs.laws.Phases.{PhasesLaw}
 use Rattle.rt_model.specs.laws.Lawful.{IsLawful}
 use Rattle.rt_model.proofs.Calling.{Asks, asks-waits}
-use Rattle.rt_model.proofs.NextEvents.{IsNext, by_own, by_acquire, by_wait, by_release, by_walk, by_confirm, by_signal, by_setprio}
+use Rattle.rt_model.proofs.Calm.{wakeup-threads}
+use Rattle.rt_model.proofs.NextEvents.{IsNext, by_own, by_acquire, by_wait, by_release, by_walk, by_confirm, by_wakeup, by_setprio}
 use Rattle.rt_model.proofs.events.Wait.{is_wait, is_again, is_leave}
 use Rattle.rt_model.proofs.events.Acquire.{is_fast, is_mark, is_take, is_busy}
 use Rattle.rt_model.proofs.events.Release.{is_free, is_give}
@@ -90,12 +91,12 @@ PhasesLaw-next s made t e lawful next u = by_kind next
     by_kind (by_acquire l (is_fast is)) = own _ is.event is.task tt
     by_kind (by_acquire l (is_mark is)) = own _ is.event is.at.at.task (asks_phased s t phases.Start phases.Slow l is.at (λ call waiting. waiting))
     by_kind (by_acquire l (is_take is)) = own _ is.event is.task tt
-    by_kind (by_acquire l (is_busy is)) = own _ is.event is.at.task tt
+    by_kind (by_acquire l (is_busy is)) = own _ is.event is.at.at.task tt
     by_kind (by_wait l (is_wait is)) = own _ is.event is.at.at.task (asks_phased s t phases.Slow _ l is.at (waits_phased t l (owner_part s l).owner _))
     by_kind (by_wait l (is_again is)) = own _ is.event is.at.at.task (lawful.phases t)
     by_kind (by_wait l (is_leave is)) = leaves l (leave-left s t l e is)
-    by_kind (by_release l (is_free is)) = own _ is.event is.at.task tt
-    by_kind (by_release l (is_give is)) = own _ is.event is.at.task tt
+    by_kind (by_release l (is_free is)) = own _ is.event is.at.at.task tt
+    by_kind (by_release l (is_give is)) = own _ is.event is.at.at.task tt
     by_kind (by_walk route v (is_walk l key is)) =
         own _ is.event is.task
         (subst Phased (sym (link-thread s made t route v l key e lawful is)) (walk_phased (thread_part s t) t v route (followed v l route) (owner_part s l).owner _ (SameSort-followed v l route) (walk-fits s t route v lawful.phases is.how)))
@@ -103,7 +104,8 @@ PhasesLaw-next s made t e lawful next u = by_kind next
         own _ is.event is.task (subst Phased (sym (end-thread s t route v e is)) (walk_phased (thread_part s t) t v route route None (task_part s v) (SameSort-itself route) (walk-fits s t route v lawful.phases is.how)))
     by_kind (by_confirm l path (is_restart link is)) = own _ is.event is.at.at.task (asks_phased s t (phases.Confirm path) (phases.Walk t (Full [])) l is.at (λ call waiting. waiting))
     by_kind (by_confirm l path (is_cycle is)) = leaves l (cycle-left s made t l path e lawful is)
-    by_kind (by_signal v is) = own _ is.event is.at.task tt
+    by_kind (by_wakeup is) =
+        wakeup-threads s t e is (λ v. Phased) u (λ thread start. subst (λ (p : Phase). IsPhaseOf p (call_of thread)) (sym start) tt) (lawful.phases u)
     by_kind (by_setprio v prio is) =
         own _ is.event is.at.task
         (subst Phased (sym (setprio-thread s made t v prio e lawful is))

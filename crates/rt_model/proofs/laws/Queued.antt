@@ -1,7 +1,6 @@
 -- A next event keeps the queued law.
 use Rattle.std.proofs.Common.{◌≡◌, ℕ, ◌<◌, Bool, true, false, length, refl, sym, ap, ◌∙◌, subst, Option, Some, None, IfSome}
 use Rattle.std.specs.Prelude.{nat_eq}
-use Rattle.rt_base.specs.declared.call.Call.TheVariants as calls
 use Rattle.rt_base.specs.declared.id.LockId.{LockId}
 use Rattle.rt_base.specs.declared.id.TaskId.{TaskId}
 use Rattle.rt_base.specs.declared.reply.Reply.TheVariants.{Done}
@@ -25,12 +24,13 @@ use Rattle.rt_model.specs.laws.Owners.{owned_by}
 use Rattle.rt_model.specs.laws.Queued.{QueuedLaw, present_lock, awaited_in, asked_in}
 use Rattle.rt_model.proofs.Blocked.{moves, changes_own, blocking-other, blocking-kept, blocked-kept, take-blocked, wait-blocked}
 use Rattle.rt_model.proofs.Calling.{asks-present}
+use Rattle.rt_model.proofs.Calm.{wakeup-at, wakeup-start, wakeup-blocked}
 use Rattle.rt_model.proofs.Leaves.{IsLeft, left_answer, left_made, left-is, left-there, left-thread, left-own_blocked, leave-left, cycle-left}
 use Rattle.rt_model.proofs.Links.{walked_thread, requeued-owner, link-thread, end-thread, setprio-thread}
 use Rattle.rt_model.proofs.Lists.{if_some}
-use Rattle.rt_model.proofs.NextEvents.{IsNext, by_own, by_acquire, by_wait, by_release, by_walk, by_confirm, by_signal, by_setprio, task-IsNext}
+use Rattle.rt_model.proofs.NextEvents.{IsNext, by_own, by_acquire, by_wait, by_release, by_walk, by_confirm, by_wakeup, by_setprio, task-IsNext}
 use Rattle.rt_model.proofs.Owned.{changes_owner, owners-kept}
-use Rattle.rt_model.proofs.events.Acquire.{AcquiresIn, by_lock, by_trylock, is_fast, is_mark, is_take, is_busy}
+use Rattle.rt_model.proofs.events.Acquire.{AcquiresIn, by_lock, by_trying, is_fast, is_mark, is_take, is_busy}
 use Rattle.rt_model.proofs.events.Wait.{is_wait, is_again, is_leave}
 use Rattle.rt_model.proofs.events.Release.{is_free, is_give}
 use Rattle.rt_model.proofs.events.Walk.{is_walk, is_walkend, is_restart, is_cycle}
@@ -128,7 +128,7 @@ start_wants thread start = record { waits = ap (λ (p : Phase). awaited_in p (pr
 
 acquires-blocked : (s : State) (made : ℕ) (t : TaskId) (l : LockId) → IsLawful s made → AcquiresIn s t l → (task_part s t).blocked ≡ None
 acquires-blocked s made t l lawful (by_lock asks unheld) = start-blocked s made t lawful asks.call asks.at
-acquires-blocked s made t l lawful (by_trylock at) = start-blocked s made t lawful (calls.TryLock l) at
+acquires-blocked s made t l lawful (by_trying at) = start-blocked s made t lawful at.call at.at
 
 module _ (s : State) (made : ℕ) (e x : Event) (lawful : IsLawful s made) (is : e ≡ x) (there : x.task.0 < length s.threads) where
   -- an event leaves its thread so, and its task blocked on what that waits for
@@ -171,9 +171,12 @@ queued_left s made t l e lawful is =
 queued_own : (s : State) (made : ℕ) (t : TaskId) (e : Event) → IsLawful s made → IsNext s t e → IsQueuedAt (state_after s e) t
 queued_own s made t e lawful (by_own call answer is) = answers_at_once s made e _ lawful is.event is.at.task refl refl (start-blocked s made t lawful call is.at)
 queued_own s made t e lawful (by_acquire l (is_fast is)) = answers_at_once s made e _ lawful is.event is.task refl refl (acquires-blocked s made t l lawful is.how)
-queued_own s made t e lawful (by_acquire l (is_busy is)) = answers_at_once s made e _ lawful is.event is.at.task refl refl (start-blocked s made t lawful (calls.TryLock l) is.at)
-queued_own s made t e lawful (by_release l (is_free is)) = answers_at_once s made e _ lawful is.event is.at.task refl refl (start-blocked s made t lawful (calls.Unlock l) is.at)
-queued_own s made t e lawful (by_release l (is_give is)) = answers_at_once s made e _ lawful is.event is.at.task refl refl (start-blocked s made t lawful (calls.Unlock l) is.at)
+queued_own s made t e lawful (by_acquire l (is_busy is)) =
+    answers_at_once s made e _ lawful is.event is.at.at.task refl refl (start-blocked s made t lawful is.at.call is.at.at)
+queued_own s made t e lawful (by_release l (is_free is)) =
+    answers_at_once s made e _ lawful is.event is.at.at.task refl refl (start-blocked s made t lawful is.at.call is.at.at)
+queued_own s made t e lawful (by_release l (is_give is)) =
+    answers_at_once s made e _ lawful is.event is.at.at.task refl refl (start-blocked s made t lawful is.at.call is.at.at)
 queued_own s made t e lawful (by_acquire l (is_take is)) = answers s made e _ lawful is.event is.task refl (take-blocked s t e l lawful.shape is)
 queued_own s made t e lawful (by_acquire l (is_mark is)) =
     own s made e _ lawful is.event is.at.at.task None (Some l) (record { waits = refl; asks = asks-present s t phases.Start l is.at })
@@ -189,7 +192,10 @@ queued_own s made t e lawful (by_confirm l path (is_cycle is)) = queued_left s m
 queued_own s made t e lawful (by_confirm l path (is_restart link is)) =
     stays s (state_after s e) t None (subst (Wants _ None) (sym (thread-own s e _ is.event is.at.at.task)) (record { waits = awaited_as (thread_part s t) (phases.Confirm path) is.at.at.phased; asks = refl }))
     (blocking-kept s e _ t is.event refl) (unowned s made e _ lawful is.event is.at.at.task refl) tt lawful.queued
-queued_own s made t e lawful (by_signal u is) = answers_at_once s made e _ lawful is.event is.at.task refl refl (start-blocked s made t lawful (calls.Signal u) is.at)
+queued_own s made t e lawful (by_wakeup is) =
+    let at = wakeup-at s t e is in
+    stands (state_after s e) t None None (start_wants (thread_part (state_after s e) t) (wakeup-start s t e is))
+    (ap blocking (wakeup-blocked s t e is t ∙ start-blocked s made t lawful at.0 at.1)) tt tt
 queued_own s made t e lawful (by_walk route u (is_walk l key is)) =
     walks s made e _ lawful is.event is.task t u route (followed u l route) (owner_part s l).owner _ (link-thread s made t route u l key e lawful is) (SameSort-followed u l route)
     (awaited_as (thread_part s t) (phases.Walk u route) (walk-phase s t route u is.how)) refl refl

@@ -20,16 +20,17 @@ use Rattle.rt_model.specs.laws.Lawful.{IsLawful}
 use Rattle.rt_model.specs.laws.Responsible.{ResponsibleLaw}
 use Rattle.rt_model.proofs.Blocked.{changes_own, blocking-other, blocking-kept, take-blocked, wait-blocked}
 use Rattle.rt_model.proofs.Calling.{IsIn}
+use Rattle.rt_model.proofs.Calm.{wakeup-kind, wakeup-at}
 use Rattle.rt_model.proofs.CellStepLemmas.{where_changed-blocked}
 use Rattle.rt_model.proofs.Leaves.{IsLeft, leave-left, cycle-left, left-own_blocked, left-locks}
 use Rattle.rt_model.proofs.Links.{link_lock, link_owner, link_next, link-thread}
-use Rattle.rt_model.proofs.NextEvents.{IsNext, by_own, by_acquire, by_wait, by_release, by_walk, by_confirm, by_signal, by_setprio, task-IsNext}
+use Rattle.rt_model.proofs.NextEvents.{IsNext, by_own, by_acquire, by_wait, by_release, by_walk, by_confirm, by_wakeup, by_setprio, task-IsNext}
 use Rattle.rt_model.proofs.Numbers.{at_each_task}
 use Rattle.rt_model.proofs.Owned.{changes_owner, owners-kept}
 use Rattle.rt_model.proofs.PartsAfter.{lock-made, thread-own, thread-other}
 use Rattle.rt_model.proofs.Routes.{walked-phase}
 use Rattle.rt_model.proofs.Waiters.{blocking, not_blocking, start-blocked, awaited}
-use Rattle.rt_model.proofs.events.Acquire.{IsAcquire, AcquiresIn, by_lock, by_trylock, is_fast, is_mark, is_take, is_busy}
+use Rattle.rt_model.proofs.events.Acquire.{IsAcquire, AcquiresIn, by_lock, by_trying, is_fast, is_mark, is_take, is_busy}
 use Rattle.rt_model.proofs.events.Release.{IsRelease, is_free, is_give}
 use Rattle.rt_model.proofs.events.Wait.{IsWait, is_wait, is_again, is_leave}
 use Rattle.rt_model.proofs.events.Walk.{WalksIn, by_full, by_short, IsWalk, is_walk, IsWalkEnd, is_walkend, is_restart, is_cycle}
@@ -122,14 +123,14 @@ module _ (s : State) (made : ℕ) (t : TaskId) (e : Event) (lawful : IsLawful s 
 
       by_call : AcquiresIn s t l → ResponsibleLaw (state_after s e)
       by_call (by_lock asks unheld) = of_owner _ l (Some t) asks.call is.event asks.at refl refl is.lock refl its
-      by_call (by_trylock at) = of_owner _ l (Some t) (calls.TryLock l) is.event at refl refl is.lock refl its
+      by_call (by_trying at) = of_owner _ l (Some t) at.call is.event at.at refl refl is.lock refl its
   of_acquire l (is_mark is) = stays _ is.event refl refl (start-blocked s made t lawful is.at.call is.at.at)
   of_acquire l (is_take is) = goes (take-blocked s t e l lawful.shape is) (owned _ l (Some t) is.event refl is.lock refl (λ o some. cc))
-  of_acquire l (is_busy is) = stays _ is.event refl refl (start-blocked s made t lawful (calls.TryLock l) is.at)
+  of_acquire l (is_busy is) = stays _ is.event refl refl (start-blocked s made t lawful is.at.call is.at.at)
 
   of_release : (l : LockId) → IsRelease s t l e → ResponsibleLaw (state_after s e)
-  of_release l (is_free is) = of_owner _ l None (calls.Unlock l) is.event is.at refl refl is.at.served refl (λ o some. cc)
-  of_release l (is_give is) = of_owner _ l None (calls.Unlock l) is.event is.at refl refl is.at.served refl (λ o some. cc)
+  of_release l (is_free is) = of_owner _ l None is.at.call is.event is.at.at refl refl is.at.lock refl (λ o some. cc)
+  of_release l (is_give is) = of_owner _ l None is.at.call is.event is.at.at refl refl is.at.lock refl (λ o some. cc)
 
   -- a task that is queued
   of_wait : (l : LockId) → IsWait s t l e → ResponsibleLaw (state_after s e)
@@ -180,5 +181,8 @@ module _ (s : State) (made : ℕ) (t : TaskId) (e : Event) (lawful : IsLawful s 
       by_family (by_confirm l path (is_restart link is)) =
           kept-restart s (state_after s e) (same-edges _ is.event refl refl) t other-phase path is.at.at.phased (not-edges s made lawful.kept lawful.rows path link is.broken) lawful.responsible
       by_family (by_confirm l path (is_cycle is)) = of_left l (cycle-left s made t l path e lawful is)
-      by_family (by_signal u is) = stays _ is.event refl refl (start-blocked s made t lawful (calls.Signal u) is.at)
+      by_family (by_wakeup is) =
+          let at = wakeup-at s t e is in
+          stays e refl (wakeup-kind (λ kind. changes_own kind ≡ false) s t e is refl refl refl)
+          (wakeup-kind (λ kind. changes_owner kind ≡ false) s t e is refl refl refl) (start-blocked s made t lawful at.0 at.1)
       by_family (by_setprio u prio is) = stays _ is.event refl refl (start-blocked s made t lawful (calls.SetPrio u prio) is.at)

@@ -1,5 +1,5 @@
 -- A next event keeps the rows law.
-use Rattle.std.proofs.Common.{◌≡◌, ℕ, suc, ◌≤◌, true, false, List, refl, sym, ap, ◌∙◌, arith, Option, Some, None, Bool, []}
+use Rattle.std.proofs.Common.{◌≡◌, ℕ, suc, ◌≤◌, true, false, List, refl, sym, ap, ◌∙◌, subst, arith, Option, Some, None, Bool, []}
 use Rattle.std.specs.Prelude.{nat_eq, option_map}
 use Rattle.std.proofs.lemmas.Bool.{cond_both}
 use Rattle.rt_base.specs.declared.id.LockId.{LockId}
@@ -18,9 +18,10 @@ use Rattle.rt_model.specs.laws.Rows.{IsQueue, RowsLaw, key_at}
 use Rattle.rt_model.specs.laws.Lawful.{IsLawful}
 use Rattle.rt_model.proofs.Blocked.{moves, requeues, rows-kept, blocked-kept, blocked-other, take-blocked, wait-blocked}
 use Rattle.rt_model.proofs.Calling.{asks-lock}
+use Rattle.rt_model.proofs.Calm.{wakeup-kind, wakeup-locks}
 use Rattle.rt_model.proofs.Leaves.{IsLeft, leave-left, cycle-left, left-locks, left-blocked, left-own_blocked, left-blocked_other}
 use Rattle.rt_model.proofs.PartsAfter.{lock-made, lock-kept}
-use Rattle.rt_model.proofs.NextEvents.{IsNext, by_own, by_acquire, by_wait, by_release, by_walk, by_confirm, by_signal, by_setprio}
+use Rattle.rt_model.proofs.NextEvents.{IsNext, by_own, by_acquire, by_wait, by_release, by_walk, by_confirm, by_wakeup, by_setprio}
 use Rattle.rt_model.proofs.events.Acquire.{IsTake, is_fast, is_mark, is_take, is_busy}
 use Rattle.rt_model.proofs.events.Wait.{IsWait, is_wait, is_again, is_leave}
 use Rattle.rt_model.proofs.events.Release.{is_free, is_give}
@@ -99,7 +100,7 @@ queue-next s made t e m lawful next = by_kind next
     by_kind (by_acquire l (is_busy is)) = lock-kept (Queue m) s e _ m is.event (same m) (λ lock was. was)
     by_kind (by_walk route u (is_walkend is)) = lock-kept (Queue m) s e _ m is.event (same m) (λ lock was. was)
     by_kind (by_confirm l path (is_restart link is)) = lock-kept (Queue m) s e _ m is.event (same m) (λ lock was. was)
-    by_kind (by_signal u is) = lock-kept (Queue m) s e _ m is.event (same m) (λ lock was. was)
+    by_kind (by_wakeup is) = subst (Queue m) (sym (wakeup-locks s t e is m)) (same m)
     by_kind (by_setprio u prio is) = lock-kept (Queue m) s e _ m is.event (same m) (λ lock was. was)
     by_kind (by_wait l (is_leave is)) = left l (leave-left s t l e is)
     by_kind (by_confirm l path (is_cycle is)) = left l (cycle-left s made t l path e lawful is)
@@ -111,8 +112,10 @@ queue-next s made t e m lawful next = by_kind next
         (more made t (effective_of (task_part s t)) (owner_part s l) (slow-unqueued s made t lawful l is.at.call is.at.at) (was l)) (λ there. same m)
     by_kind (by_walk route u (is_walk l key is)) =
         link-locks s made t route u l key e lawful is Queue m (anew made u (task_part s u) key (owner_part s l) (blocked-queued s made u l key lawful.rows is.blocked) (was l)) (λ there. same m)
-    by_kind (by_release l (is_free is)) = lock-made Queue s e _ l m is.event refl is.at.served (stays l None (owner_part s l).bit (was l).queue.clear) (λ there. same m)
-    by_kind (by_release l (is_give is)) = lock-made Queue s e _ l m is.event refl is.at.served (stays l None (has_rows (owner_part s l).rows) (no_rows (owner_part s l).rows)) (λ there. same m)
+    by_kind (by_release l (is_free is)) =
+        lock-made Queue s e _ l m is.event refl is.at.lock (stays l None (owner_part s l).bit (was l).queue.clear) (λ there. same m)
+    by_kind (by_release l (is_give is)) =
+        lock-made Queue s e _ l m is.event refl is.at.lock (stays l None (has_rows (owner_part s l).rows) (no_rows (owner_part s l).rows)) (λ there. same m)
 
 -- ---- rows and blocked tasks
 
@@ -198,7 +201,7 @@ module _ (s : State) (made : ℕ) (t : TaskId) (e : Event) (m : LockId) (u : Tas
   row-next (by_wait l (is_again is)) = still _ is.event refl
   row-next (by_walk route cursor (is_walkend is)) = still _ is.event refl
   row-next (by_confirm l path (is_restart link is)) = still _ is.event refl
-  row-next (by_signal target is) = still _ is.event refl
+  row-next (by_wakeup is) = still e refl (wakeup-kind (λ kind. moves kind ≡ false) s t e is refl refl refl)
   row-next (by_setprio target prio is) = still _ is.event refl
   row-next (by_release l (is_free is)) = still _ is.event refl
   row-next (by_release l (is_give is)) = still _ is.event refl

@@ -8,7 +8,6 @@ use Rattle.rt_base.specs.declared.call.Call.{Call}
 use Rattle.rt_base.specs.declared.call.Call.TheVariants as calls
 use Rattle.rt_base.specs.declared.id.TaskId.{TaskId}
 use Rattle.rt_base.specs.declared.kind.Kind.{Kind}
-use Rattle.rt_base.specs.declared.kind.Kind.TheVariants.{Mutex}
 use Rattle.rt_base.specs.declared.reply.Reply.{Reply}
 use Rattle.rt_base.specs.declared.reply.Reply.TheVariants as replies
 use Rattle.rt_model.specs.declared.event.Event.{Event}
@@ -25,7 +24,7 @@ use Rattle.rt_model.specs.Effect.{Touched, Around, Effect, around}
 use Rattle.rt_model.specs.Rules.{touched, effect}
 use Rattle.rt_model.specs.StateAfter.{update, effect_in, lock_left, tasks_left, shared_after, thread_after, state_after}
 use Rattle.rt_model.specs.steps.Thread.{holds_after, answered_with}
-use Rattle.rt_model.specs.Stage.{IsServed, IsStaged}
+use Rattle.rt_model.specs.Stage.{IsServed, IsForKind, IsStaged}
 use Rattle.rt_model.specs.laws.Shape.{IsShaped, IsOf, IsWithin, SameSize}
 use Rattle.rt_model.proofs.Lists.{length-update, All-update, All-default, length-at_lock, length-at_task, All-at_lock, All-at_task}
 use Rattle.rt_model.proofs.Queues.{All-insert_row}
@@ -51,8 +50,11 @@ KindsFit n thread = length thread.kinds ≡ n
 abbrev pub AreServed : ℕ → ℕ → ThreadPart → Type 0
 AreServed m n thread = All (IsServed m n) thread.calls
 
-abbrev pub AreMutexes : ThreadPart → Type 0
-AreMutexes thread = All (λ (kind : Kind). kind ≡ Mutex) thread.kinds
+abbrev pub AreFit : ThreadPart → Type 0
+AreFit thread = All (IsForKind thread.kinds) thread.calls
+
+abbrev pub KnowsKinds : List Kind → ThreadPart → Type 0
+KnowsKinds known thread = thread.kinds ≡ known
 
 -- ---- a lock
 
@@ -116,6 +118,9 @@ length-holds_after thread (Some (calls.Lock l)) replies.Got = simp length-set
 length-holds_after thread (Some (calls.LockInt l)) replies.Got = simp length-set
 length-holds_after thread (Some (calls.TryLock l)) replies.Got = simp length-set
 length-holds_after thread (Some (calls.Unlock l)) replies.Done = simp length-set
+length-holds_after thread (Some (calls.Spin l)) replies.Got = simp length-set
+length-holds_after thread (Some (calls.TrySpin l)) replies.Got = simp length-set
+length-holds_after thread (Some (calls.Unspin l)) replies.Done = simp length-set
 length-holds_after thread call answer = refl
 
 answer-left : (thread : ThreadPart) (reply : Option Reply) → KeepsThread thread (answered_with thread reply)
@@ -133,6 +138,10 @@ thread-keeps sh th e =
       cpu = answered.cpu ∙ ap (λ (thread : ThreadPart). thread.cpu) moved;
       holds = answered.holds ∙ ap (λ (thread : ThreadPart). length thread.holds) moved;
     }
+
+-- calls that fit the kinds fit the same kinds
+fits-still : (before after : ThreadPart) → after.kinds ≡ before.kinds → after.calls ≡ before.calls → AreFit before → AreFit after
+fits-still before after kinds calls fits = subst (λ (ks : List Kind). All (IsForKind ks) after.calls) (sym kinds) (subst (λ (cs : List Call). All (IsForKind before.kinds) cs) (sym calls) fits)
 
 -- ---- the state
 
@@ -162,10 +171,10 @@ module _ (s : State) (e : Event) (lt : e.task.0 < length s.threads) where
   -- how far the stage goes
   pub IsStaged-after : IsStaged s → IsStaged (state_after s e)
   IsStaged-after staged = record {
-    mutexes = threads-keep AreMutexes (λ after is was. subst (All (λ (kind : Kind). kind ≡ Mutex)) (sym is.kinds) was) staged.mutexes;
     served = subst (λ (k : ℕ). All (AreServed k (length (state_after s e).locks)) (state_after s e).threads) (sym threads)
         (subst (λ (k : ℕ). All (AreServed (length s.threads) k) (state_after s e).threads) (sym locks)
         (threads-keep (AreServed (length s.threads) (length s.locks)) (λ after is was. subst (All (IsServed (length s.threads) (length s.locks))) (sym is.calls) was) staged.served));
+    fit = threads-keep AreFit (λ after is was. fits-still (thread_part s e.task) after is.kinds is.calls was) staged.fit;
   }
 
 -- an event that names what is there leaves lists that fit together
@@ -185,6 +194,8 @@ IsShaped-after s e within shaped =
       kept = subst (λ (k : ℕ). All (KeptFits k) (state_after s e).tasks) (sym same_locks)
           (tasks-keep (KeptFits n) (touched e.kind e) (effect_in (shared s) th e) lock s.tasks (fits-own n e.kind e th found lock) (fits-others n e.kind e th found lock) shaped.kept);
       kinds = subst (λ (k : ℕ). All (KindsFit k) (state_after s e).threads) (sym same_locks) (threads-keep s e within.task (KindsFit n) (λ after is was. ap length is.kinds ∙ was) shaped.kinds);
+      known = shaped.known;
+      alike = threads-keep s e within.task (KnowsKinds shaped.known) (λ after is was. is.kinds ∙ was) shaped.alike;
       holds = subst (λ (k : ℕ). All (HoldsFit k) (state_after s e).threads) (sym same_locks) (threads-keep s e within.task (HoldsFit n) (λ after is was. is.holds ∙ was) shaped.holds);
       owners = subst (λ (k : ℕ). All (OwnerIn k) (state_after s e).locks) (sym same_threads)
           (All-at_lock (OwnerIn (length s.threads)) s.locks (touched e.kind e).lock _ (owner-left (length s.threads) e.kind e th found within.task) shaped.owners);
@@ -204,7 +215,7 @@ IsOf-after script s e lt is = record {
   locks = length-at_lock s.locks (touched e.kind e).lock _ ∙ is.locks;
   readers = length-at_lock s.readers (touched e.kind e).readers _ ∙ is.readers;
   tasks = tasks s e lt ∙ is.tasks;
-  kinds = threads-keep s e lt (λ (thread : ThreadPart). thread.kinds ≡ kinds_in script) (λ after keeps was. keeps.kinds ∙ was) is.kinds;
+  kinds = threads-keep s e lt (KnowsKinds (kinds_in script)) (λ after keeps was. keeps.kinds ∙ was) is.kinds;
   calls = map-write (λ (thread : ThreadPart). thread.calls) s.threads e.task.0 _ _ (thread-keeps (shared s) (thread_part s e.task) e).calls ∙ is.calls;
 }
 

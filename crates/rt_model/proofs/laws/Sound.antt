@@ -17,6 +17,7 @@ use Rattle.rt_model.proofs.laws.Deadlocks.{deadlocks-law}
 use Rattle.rt_model.proofs.laws.Interrupts.{interrupts-law}
 use Rattle.rt_model.proofs.laws.Cycles.{cycles-law}
 use Rattle.rt_model.proofs.laws.Priorities.{priority-law}
+use Rattle.rt_model.proofs.laws.Wakeups.{wakeups-law}
 use Rattle.rt_model.proofs.laws.Calls.{calls-law}
 use Rattle.rt_model.proofs.laws.Rest.{rest-sound}
 
@@ -35,6 +36,7 @@ sound script events valid mutexes run =
       deadlocks = deadlocks-law (start script) 0 events lawful run (owner-start script) (idle-start script);
       interrupts = interrupts-law (start script) 0 events lawful run (idle-start script);
       cycles = cycles-law (start script) 0 events lawful run;
+      wakeups = wakeups-law script events lawful run;
       calls = calls-law script events lawful run;
       rest = rest-sound (start script) 0 events lawful run;
     }

@@ -1,75 +1,203 @@
 -- A next event keeps the states law.
-use Rattle.std.proofs.Common.{◌≡◌, ◌≢◌, Bool, false, cond, refl, sym, ap, ◌∙◌, Option, Some, None, All}
-use Rattle.std.proofs.lemmas.List.Elements.{All-nil}
+use Rattle.std.proofs.Common.{◌≡◌, ℕ, ◌<◌, Bool, false, ◌&&◌, refl, sym, ap, ◌∙◌, subst, Option, Some, None, IfSome, length}
+use Rattle.std.specs.Prelude.{is_some, nat_eq}
 use Rattle.rt_base.specs.Kind.{spins}
-use Rattle.rt_base.specs.declared.call.Call.{Call}
-use Rattle.rt_base.specs.declared.call.Call.TheVariants as calls
 use Rattle.rt_base.specs.declared.id.LockId.{LockId}
 use Rattle.rt_base.specs.declared.id.TaskId.{TaskId}
-use Rattle.rt_base.specs.declared.kind.Kind.{Kind}
-use Rattle.rt_base.specs.declared.kind.Kind.TheVariants.{Mutex}
+use Rattle.rt_base.specs.declared.reply.Reply.{Reply}
 use Rattle.rt_base.specs.declared.state.TaskState.{TaskState}
-use Rattle.rt_base.specs.declared.state.TaskState.TheVariants as states
 use Rattle.rt_model.specs.declared.event.Event.{Event}
-use Rattle.rt_model.specs.declared.event_kind.EventKind.{EventKind}
-use Rattle.rt_model.specs.declared.event_kind.EventKind.TheVariants as events
-use Rattle.rt_model.specs.Parts.{OwnerPart, TaskPart, ThreadPart, call_of, kind_named}
-use Rattle.rt_model.specs.State.{State, task_part, thread_part}
-use Rattle.rt_model.specs.steps.Task.{sleep_of, rest_of, saved_for}
-use Rattle.rt_model.specs.Effect.{Around}
-use Rattle.rt_model.specs.Rules.{effect}
-use Rattle.rt_model.specs.StateAfter.{state_after}
-use Rattle.rt_model.specs.Stage.{IsStaged}
-use Rattle.rt_model.specs.laws.States.{StatesLaw}
-use Rattle.rt_model.proofs.Lists.{All-read}
-use Rattle.rt_model.proofs.PartsAfter.{task-keeps}
-use Rattle.rt_model.proofs.TaskStates.{HasState, state-own, state-others}
+use Rattle.rt_model.specs.declared.phase.Phase.TheVariants as phases
+use Rattle.rt_model.specs.Parts.{ThreadPart, call_of, kind_of}
+use Rattle.rt_model.specs.State.{State, shared, task_part, thread_part}
+use Rattle.rt_model.specs.steps.Task.{leave_queue, state_number}
+use Rattle.rt_model.specs.steps.Thread.{answered_with}
+use Rattle.rt_model.specs.Effect.{around}
+use Rattle.rt_model.specs.Rules.{touched}
+use Rattle.rt_model.specs.StateAfter.{effect_in, lock_left, shared_after, thread_after, state_after}
+use Rattle.rt_model.specs.laws.Lawful.{IsLawful}
+use Rattle.rt_model.specs.laws.States.{spins_at, waits_spinning, IsRested, StatesLaw}
+use Rattle.rt_model.proofs.Blocked.{changes_own, blocking-other, blocking-kept, take-blocked, wait-blocked}
+use Rattle.rt_model.proofs.Named.{within}
+use Rattle.rt_model.proofs.NextEvents.{IsNext, by_own, by_acquire, by_wait, by_release, by_walk, by_confirm, by_wakeup, by_setprio, task-IsNext}
+use Rattle.rt_model.proofs.events.Acquire.{IsTake, TakesIn, from_slow, from_wait, from_trying, is_fast, is_mark, is_take, is_busy}
+use Rattle.rt_model.proofs.events.Wait.{IsWait, IsAgain, is_wait, is_again, is_leave}
+use Rattle.rt_model.proofs.events.Release.{is_free, is_give}
+use Rattle.rt_model.proofs.events.Walk.{is_walk, is_walkend, is_restart, is_cycle}
+use Rattle.rt_model.proofs.events.Wakeups.{IsState, is_state, is_sched, is_wake, is_signal}
+use Rattle.rt_model.proofs.Leaves.{IsLeft, by_leave, by_cycle, leave-left, cycle-left, left_step, left-blocked, left-own, left-own_blocked}
+use Rattle.rt_model.proofs.Numbers.{other_number, at_each_task}
+use Rattle.rt_model.proofs.PartsAfter.{task-keeps, other-keeps, own-made, thread-made, thread-phase}
+use Rattle.rt_model.proofs.TaskStates.{HasStates, can_sleep, AreRested, rested-states, states-rested, rested-own, rested-others, rested-blocked, rested-again, rested-left, rested-set, still_waits, waits_there}
+use Rattle.rt_model.proofs.Waiters.{blocking, asks-awaited, start-blocked, slow-blocked}
+use Rattle.rt_model.proofs.Within.{task_room}
 
--- no lock spins, as any thread knows it
-pub kinds_known : (s : State) (t : TaskId) → IsStaged s → All (λ (kind : Kind). kind ≡ Mutex) (thread_part s t).kinds
-kinds_known s t staged = All-read (λ (thread : ThreadPart). All (λ (kind : Kind). kind ≡ Mutex) thread.kinds) s.threads t.0 _ staged.mutexes (All-nil (λ (kind : Kind). kind ≡ Mutex))
+-- ---- what a thread knows stays
 
-pub spins-known : (s : State) (t : TaskId) (l : Option LockId) → IsStaged s → spins (kind_named (thread_part s t) l) ≡ false
-spins-known s t None staged = refl
-spins-known s t (Some l) staged = ap spins (All-read (λ (kind : Kind). kind ≡ Mutex) (thread_part s t).kinds l.0 Mutex (kinds_known s t staged) refl)
+answer-kinds : (thread : ThreadPart) (reply : Option Reply) → (answered_with thread reply).kinds ≡ thread.kinds
+answer-kinds thread None = refl
+answer-kinds thread (Some answer) = refl
 
--- ---- a task
-
-sleeping : (call : Option Call) → sleep_of call ≢ states.LockWait
-sleeping (Some (calls.LockInt l)) is = cc
-sleeping _ is = cc
-
--- a call for a lock that doesn't spin waits in an ordinary sleep
-resting : (kind : Kind) (call : Option Call) → spins kind ≡ false → rest_of kind call ≡ sleep_of call
-resting kind call is = ap (λ (b : Bool). cond b states.LockWait (sleep_of call)) is
-
-saved-sleep : (call : Option Call) (task : TaskPart) → (saved_for (sleep_of call) task).saved ≡ task.saved
-saved-sleep (Some (calls.LockInt l)) task = refl
-saved-sleep _ task = refl
-
-abbrev pub IsCalm : TaskState → Type 0
-IsCalm state = state ≢ states.LockWait
-
-pub running-calm : IsCalm states.Running
-running-calm is = cc
-
-calm-own : (kind : EventKind) (e : Event) (th : ThreadPart) → spins (kind_named th e.lock) ≡ false → (found : Around) (lock : OwnerPart) (task : TaskPart) → HasState IsCalm task → HasState IsCalm ((effect kind e th found).own lock task)
-calm-own events.Wait e th is found lock task calm = record {
-  state = λ waits. sleeping (call_of th) (sym (resting (kind_named th e.lock) (call_of th) is) ∙ waits);
-  saved = ap (λ (rest : TaskState). (saved_for rest task).saved) (resting (kind_named th e.lock) (call_of th) is) ∙ (saved-sleep (call_of th) task ∙ calm.saved);
-}
-calm-own events.Again e th is found lock task calm = record {
-  state = λ waits. sleeping (call_of th) (sym (resting (kind_named th e.lock) (call_of th) is) ∙ waits);
-  saved = calm.saved;
-}
-calm-own kind e th is found lock task calm = state-own IsCalm running-calm kind e th refl found lock task calm
-
--- ---- the law: whatever the event is, since no lock spins
-
-pub StatesLaw-after : (s : State) (e : Event) → IsStaged s → StatesLaw s → StatesLaw (state_after s e)
-StatesLaw-after s e staged law = record { state = λ u. (calm u).state; saved = λ u. (calm u).saved }
+pub kinds-kept : (s : State) (e : Event) (u : TaskId) → e.task.0 < length s.threads → (thread_part (state_after s e) u).kinds ≡ (thread_part s u).kinds
+kinds-kept s e u lt = thread-made (λ v thread. thread.kinds ≡ (thread_part s v).kinds) s e e u refl lt own (λ ne. refl)
   where
-    calm : (u : TaskId) → HasState IsCalm (task_part (state_after s e) u)
-    calm u =
-        task-keeps (HasState IsCalm) s e u (record { state = law.state u; saved = law.saved u })
-        (calm-own e.kind e (thread_part s e.task) (spins-known s e.task e.lock staged)) (state-others IsCalm running-calm e.kind e (thread_part s e.task))
+    own : (thread_after (shared s) (thread_part s e.task) e).kinds ≡ (thread_part s e.task).kinds
+    own =
+        let th = thread_part s e.task in
+        answer-kinds _ e.reply ∙ ap (λ (thread : ThreadPart). thread.kinds) (thread-phase e.kind e th (around (shared s) (touched e.kind e)) (around (shared_after (shared s) th e) (touched e.kind e)) th)
+
+-- ---- a task that leaves a queue is in that one, where it is in one
+
+-- it is blocked on this lock, or on none
+abbrev IsOnly : LockId → Option (LockId × ℕ) → Type 0
+IsOnly l blocked = IfSome blocked (λ at. at.0 ≡ l)
+
+only-this : (l : LockId) (blocked : Option (LockId × ℕ)) → blocking blocked ≡ Some l → IsOnly l blocked
+only-this l None is = tt
+only-this l (Some at) is = cc
+
+only-none : (l : LockId) (blocked : Option (LockId × ℕ)) → blocked ≡ None → IsOnly l blocked
+only-none l None is = tt
+only-none l (Some at) is = cc
+
+waits_only : (thread : ThreadPart) (l : LockId) (blocked : Option (LockId × ℕ)) → IsOnly l blocked → spins_at thread blocked ≡ (is_some blocked && spins (kind_of thread l))
+waits_only thread l None only = refl
+waits_only thread l (Some at) only = ap (λ (m : LockId). spins (kind_of thread m)) only
+
+-- ---- the law
+
+module _ (s : State) (made : ℕ) (t : TaskId) (e : Event) (lawful : IsLawful s made) (next : IsNext s t e) where
+  -- whether a task waits for a spinning kind, before and after
+  abbrev before : TaskId → Bool
+  before u = waits_spinning (thread_part s u) (task_part s u)
+
+  abbrev after : TaskId → Bool
+  after u = waits_spinning (thread_part (state_after s e) u) (task_part (state_after s e) u)
+
+  was : (u : TaskId) → HasStates (AreRested (before u)) (task_part s u)
+  was u = rested-states (before u) (task_part s u) (lawful.states u)
+
+  -- so its own task, where that is known
+  own-was : (b : Bool) → before t ≡ b → HasStates (AreRested b) (task_part s t)
+  own-was b is = subst (λ (c : Bool). HasStates (AreRested c) (task_part s t)) is (was t)
+
+  unblocked-was : (task_part s t).blocked ≡ None → HasStates (AreRested false) (task_part s t)
+  unblocked-was none = own-was false (ap (spins_at (thread_part s t)) none)
+
+  known : (u : TaskId) → (thread_part (state_after s e) u).kinds ≡ (thread_part s u).kinds
+  known u = kinds-kept s e u (within s made t e lawful next).task
+
+  abbrev Rests : TaskId → Type 0
+  Rests u = IsRested (after u) (task_part (state_after s e) u)
+
+  rests : (u : TaskId) (b : Bool) → after u ≡ b → HasStates (AreRested b) (task_part (state_after s e) u) → Rests u
+  rests u b is has = subst (λ (c : Bool). IsRested c (task_part (state_after s e) u)) (sym is) (states-rested b (task_part (state_after s e) u) has)
+
+  -- a task that stays blocked as it is
+  rests-still : (u : TaskId) → blocking (task_part (state_after s e) u).blocked ≡ blocking (task_part s u).blocked → HasStates (AreRested (before u)) (task_part (state_after s e) u) → Rests u
+  rests-still u blocked has = rests u (before u) (still_waits (thread_part s u) (thread_part (state_after s e) u) (task_part s u).blocked (task_part (state_after s e) u).blocked (known u) blocked) has
+
+  -- one that isn't blocked
+  rests-unblocked : (task_part (state_after s e) t).blocked ≡ None → HasStates (AreRested false) (task_part (state_after s e) t) → Rests t
+  rests-unblocked none has = rests t false (ap (spins_at (thread_part (state_after s e) t)) none) has
+
+  -- every other task
+  others : (u : TaskId) → nat_eq t.0 u.0 ≡ false → Rests u
+  others u ne =
+      let ne_own : nat_eq e.task.0 u.0 ≡ false = ap (λ (v : TaskId). nat_eq v.0 u.0) (task-IsNext s t e next) ∙ ne in
+      rests-still u (blocking-other s e u ne_own) (other-keeps (HasStates (AreRested (before u))) s e u ne_own (was u) (rested-others (before u) e.kind e (thread_part s e.task)))
+
+  -- its own where it can't be left sleeping
+  own-kept : (x : Event) → e ≡ x → can_sleep x.kind ≡ false → changes_own x.kind ≡ false → Rests t
+  own-kept x is awake stays =
+      rests-still t (blocking-kept s e x t is stays)
+      (task-keeps (HasStates (AreRested (before t))) s e t (was t) (rested-own (before t) e.kind e (thread_part s e.task) (ap (λ (y : Event). can_sleep y.kind) is ∙ awake))
+      (rested-others (before t) e.kind e (thread_part s e.task)))
+
+  -- and where it can: it is as the effect says
+  own-left : (x : Event) (b : Bool) → e ≡ x → (touched x.kind x).own ≡ Some t
+      → HasStates (AreRested b) ((effect_in (shared s) (thread_part s x.task) x).own (lock_left (shared s) (thread_part s x.task) x) (task_part s t)) → HasStates (AreRested b) (task_part (state_after s e) t)
+  own-left x b is named left =
+      let th = thread_part s x.task in
+      let lt : t.0 < length s.threads = subst (λ (v : TaskId). v.0 < length s.threads) (task-IsNext s t e next) (within s made t e lawful next).task in
+      own-made (λ v task. HasStates (AreRested b) task) s e x t t is named (task_room s t lawful.shape lt) (rested-others b x.kind x th (around (shared s) (touched x.kind x)) (lock_left (shared s) th x)) left
+      (λ ne. absurd (other_number t.0 t.0 ne refl))
+
+  -- it comes into a queue
+  own-wait : (l : LockId) → IsWait s t l e → Rests t
+  own-wait l is =
+      let spinning : Bool = spins (kind_of (thread_part s t) l) in
+      let blocked = wait-blocked s t e l lawful.shape is in
+      rests t spinning (waits_there (thread_part (state_after s e) t) (thread_part s t) (task_part (state_after s e) t).blocked l (known t) (ap blocking blocked))
+      (own-left _ spinning is.event refl (rested-blocked spinning (call_of (thread_part s t)) (task_part s t) (unblocked-was (slow-blocked s made t lawful is.at.call is.at.at))))
+
+  -- it sleeps there again
+  own-again : (l : LockId) → IsAgain s t l e → Rests t
+  own-again l is =
+      let spinning : Bool = spins (kind_of (thread_part s t) l) in
+      let waits : before t ≡ spinning = waits_there (thread_part s t) (thread_part s t) (task_part s t).blocked l refl (asks-awaited s made t lawful phases.Wait l is.at) in
+      rests-still t (blocking-kept s e _ t is.event refl)
+      (subst (λ (b : Bool). HasStates (AreRested b) (task_part (state_after s e) t)) (sym waits)
+      (own-left _ spinning is.event refl (rested-again spinning (call_of (thread_part s t)) (task_part s t) (own-was spinning waits))))
+
+  -- it leaves it
+  leaving : (l : LockId) → IsOnly l (task_part s t).blocked → HasStates (AreRested false) (leave_queue (spins (kind_of (thread_part s t) l)) (task_part s t))
+  leaving l only =
+      let spinning : Bool = spins (kind_of (thread_part s t) l) in
+      rested-left spinning (task_part s t) (own-was (is_some (task_part s t).blocked && spinning) (waits_only (thread_part s t) l (task_part s t).blocked only))
+
+  take-only : (l : LockId) → TakesIn s t l → IsOnly l (task_part s t).blocked
+  take-only l (from_slow is) = only-none l (task_part s t).blocked (slow-blocked s made t lawful is.call is.at)
+  take-only l (from_wait is awake) = only-this l (task_part s t).blocked (asks-awaited s made t lawful phases.Wait l is)
+  take-only l (from_trying is) = only-none l (task_part s t).blocked (start-blocked s made t lawful is.call is.at)
+
+  own-take : (l : LockId) → IsTake s t l e → Rests t
+  own-take l is = rests-unblocked (take-blocked s t e l lawful.shape is) (own-left _ false is.event refl (leaving l (take-only l is.how)))
+
+  own-leaves : (l : LockId) → IsLeft s t l e → Rests t
+  own-leaves l is =
+      let blocked = left-blocked s made t l e lawful is in
+      rests-unblocked (left-own_blocked s made t l e lawful is)
+      (subst (HasStates (AreRested false)) (sym (left-own s made t l e lawful is)) (of_kind is (leaving l (only-this l (task_part s t).blocked (ap blocking blocked.1)))))
+    where
+      spinning : Bool
+      spinning = spins (kind_of (thread_part s t) l)
+
+      of_kind : (i : IsLeft s t l e) → HasStates (AreRested false) (leave_queue spinning (task_part s t)) → HasStates (AreRested false) (left_step i spinning (task_part s t))
+      of_kind (by_leave leaves) has = has
+      of_kind (by_cycle path o m rest tells round owned) has = has
+
+  -- it sets its state, and is blocked on nothing
+  own-sets : (state : TaskState) → IsState s t state e → Rests t
+  own-sets state is =
+      let unblocked = start-blocked s made t lawful _ is.at in
+      rests-still t (blocking-kept s e _ t is.event refl)
+      (subst (λ (b : Bool). HasStates (AreRested b) (task_part (state_after s e) t)) (sym (ap (spins_at (thread_part s t)) unblocked))
+      (own-left _ false is.event refl (rested-set (state_number state) (task_part s t) (unblocked-was unblocked))))
+
+  own-rests : IsNext s t e → Rests t
+  own-rests (by_own call answer is) = own-kept _ is.event refl refl
+  own-rests (by_acquire l (is_fast is)) = own-kept _ is.event refl refl
+  own-rests (by_acquire l (is_mark is)) = own-kept _ is.event refl refl
+  own-rests (by_acquire l (is_take is)) = own-take l is
+  own-rests (by_acquire l (is_busy is)) = own-kept _ is.event refl refl
+  own-rests (by_wait l (is_wait is)) = own-wait l is
+  own-rests (by_wait l (is_again is)) = own-again l is
+  own-rests (by_wait l (is_leave is)) = own-leaves l (leave-left s t l e is)
+  own-rests (by_release l (is_free is)) = own-kept _ is.event refl refl
+  own-rests (by_release l (is_give is)) = own-kept _ is.event refl refl
+  own-rests (by_walk route u (is_walk l key is)) = own-kept _ is.event refl refl
+  own-rests (by_walk route u (is_walkend is)) = own-kept _ is.event refl refl
+  own-rests (by_confirm l path (is_restart link is)) = own-kept _ is.event refl refl
+  own-rests (by_confirm l path (is_cycle is)) = own-leaves l (cycle-left s made t l path e lawful is)
+  own-rests (by_wakeup (is_state state is)) = own-sets state is
+  own-rests (by_wakeup (is_sched is)) = own-kept _ is.event refl refl
+  own-rests (by_wakeup (is_wake u is)) = own-kept _ is.event refl refl
+  own-rests (by_wakeup (is_signal u is)) = own-kept _ is.event refl refl
+  own-rests (by_setprio u prio is) = own-kept _ is.event refl refl
+
+-- states law
+pub StatesLaw-next : (s : State) (made : ℕ) (t : TaskId) (e : Event) → IsLawful s made → IsNext s t e → StatesLaw (state_after s e)
+StatesLaw-next s made t e lawful next u =
+    let after = state_after s e in
+    at_each_task (λ v. IsRested (waits_spinning (thread_part after v) (task_part after v)) (task_part after v)) t u (own-rests s made t e lawful next next) (others s made t e lawful next u)

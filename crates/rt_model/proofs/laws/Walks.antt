@@ -25,10 +25,11 @@ use Rattle.rt_model.specs.laws.Owners.{owned_by}
 use Rattle.rt_model.specs.laws.Queued.{present_lock, awaited_in}
 use Rattle.rt_model.specs.laws.Walks.{IsFullWalk, IsWalkOf, WalksLaw}
 use Rattle.rt_model.proofs.Calling.{asks-present, asks-lock}
+use Rattle.rt_model.proofs.Calm.{wakeup-threads}
 use Rattle.rt_model.proofs.Leaves.{IsLeft, left_answer, left_made, left-is, left-there, left-lock_there, left-thread, leave-left, cycle-left}
 use Rattle.rt_model.proofs.Links.{walked_thread, link-thread, end-thread, setprio-thread}
 use Rattle.rt_model.proofs.Lists.{length-update, length-at_lock}
-use Rattle.rt_model.proofs.NextEvents.{IsNext, by_own, by_acquire, by_wait, by_release, by_walk, by_confirm, by_signal, by_setprio}
+use Rattle.rt_model.proofs.NextEvents.{IsNext, by_own, by_acquire, by_wait, by_release, by_walk, by_confirm, by_wakeup, by_setprio}
 use Rattle.rt_model.proofs.Numbers.{other_way}
 use Rattle.rt_model.proofs.PartsAfter.{thread-made}
 use Rattle.rt_model.proofs.Paths.{full-goes, full-confirms, full-room}
@@ -136,15 +137,15 @@ WalksLaw-next s made t e lawful next v =
     by_kind (by_acquire l (is_fast is)) = own _ is.event is.task tt
     by_kind (by_acquire l (is_mark is)) = own _ is.event is.at.at.task tt
     by_kind (by_acquire l (is_take is)) = own _ is.event is.task tt
-    by_kind (by_acquire l (is_busy is)) = own _ is.event is.at.task tt
+    by_kind (by_acquire l (is_busy is)) = own _ is.event is.at.at.task tt
     by_kind (by_wait l (is_wait is)) =
         let lock = asks-lock s t phases.Slow l is.at in
         own _ is.event is.at.at.task
         (wait_walks n m (thread_part s t) t l (owner_part s l).owner _ is.at.at.task lock (asks-present s t phases.Slow l is.at) (slow-unowned s made t lawful l is.at) (owner_within s l lawful.shape lock))
     by_kind (by_wait l (is_again is)) = own _ is.event is.at.at.task (lawful.walks t)
     by_kind (by_wait l (is_leave is)) = left l (leave-left s t l e is)
-    by_kind (by_release l (is_free is)) = own _ is.event is.at.task tt
-    by_kind (by_release l (is_give is)) = own _ is.event is.at.task tt
+    by_kind (by_release l (is_free is)) = own _ is.event is.at.at.task tt
+    by_kind (by_release l (is_give is)) = own _ is.event is.at.at.task tt
     by_kind (by_walk route u (is_walk l key is)) =
         let link = walk-link s made t route u l key e lawful is in
         own _ is.event is.task
@@ -154,7 +155,8 @@ WalksLaw-next s made t e lawful next v =
     by_kind (by_walk route u (is_walkend is)) = own _ is.event is.task (subst (Walking n m t) (sym (end-thread s t route u e is)) (end_walks n m (thread_part s t) t route))
     by_kind (by_confirm l path (is_restart link is)) = own _ is.event is.at.at.task (is.at.at.task, empty_walk n m t (present_lock (thread_part s t)))
     by_kind (by_confirm l path (is_cycle is)) = left l (cycle-left s made t l path e lawful is)
-    by_kind (by_signal u is) = own _ is.event is.at.task tt
+    by_kind (by_wakeup is) =
+        wakeup-threads s t e is (Walking n m) v (λ thread start. subst (IsWalkOf n m t (present_lock thread)) (sym start) tt) (lawful.walks v)
     by_kind (by_setprio u prio is) =
         own _ is.event is.at.task
         (subst (Walking n m t) (sym (setprio-thread s made t u prio e lawful is)) (short_walks n m (thread_part s t) t Done (Some u) (with_own prio (task_part s u)) is.at.served.0))

@@ -67,7 +67,7 @@ take = record {
   effect = λ e thread found. record unchanged { lock = taken_by e.task; own = taker e.lock (kind_named thread e.lock) };
 }
 
--- ---- busy: a call that tries, or a reader, finds the lock taken; so far of a call that tries for a mutex
+-- ---- busy: a call that tries, or a reader, finds the lock taken; so far of a call that tries
 
 abbrev pub busy_event : TaskId → LockId → OwnerPart → Event
 busy_event t l lock = record (bare t kinds.Busy) { lock = Some l; owner = lock.owner; reply = Some Busy }

@@ -1,5 +1,5 @@
 -- Own: what a thread answers a call at once, by what it knows itself.
-use Rattle.std.specs.Prelude.{ℕ, ◌+◌, Bool, false, ◌&&◌, ◌||◌, List, [], ◌∷◌, Option, Some, None, option_map, nat_lt, if◌then◌else◌}
+use Rattle.std.specs.Prelude.{ℕ, Bool, false, ◌&&◌, ◌||◌, List, Option, Some, None, option_map, nat_lt, if◌then◌else◌}
 use Rattle.rt_base.specs.declared.call.Call.{Call}
 use Rattle.rt_base.specs.declared.call.Call.TheVariants as calls
 use Rattle.rt_base.specs.declared.id.LockId.{LockId}
@@ -12,7 +12,7 @@ use Rattle.rt_base.specs.declared.reply.Reply.TheVariants as replies
 use Rattle.rt_model.specs.declared.event.Event.{Event}
 use Rattle.rt_model.specs.declared.event_kind.EventKind.TheVariants as kinds
 use Rattle.rt_model.specs.declared.hold.Hold.{Hold}
-use Rattle.rt_model.specs.Parts.{ThreadPart, hold_of, kind_of}
+use Rattle.rt_model.specs.Parts.{ThreadPart, hold_of, kind_of, count_holds}
 use Rattle.rt_model.specs.Effect.{Rule, nothing, touches_alone}
 use Rattle.rt_model.specs.Choice.{bare, called_lock}
 
@@ -68,9 +68,7 @@ spinning_hold kind hold = if spins kind && (hold.owns || nat_lt 0 hold.reads) th
 
 -- how many locks of a spinning kind these holds are of
 abbrev pub spinning_holds : List Kind → List Hold → ℕ
-spinning_holds [] holds = 0
-spinning_holds (kind ∷ kinds) [] = 0
-spinning_holds (kind ∷ kinds) (hold ∷ holds) = spinning_hold kind hold + spinning_holds kinds holds
+spinning_holds kinds holds = count_holds spinning_hold kinds holds
 
 -- what a thread answers a call on this lock at once, where it does
 abbrev pub answer_on : ThreadPart → Call → Option LockId → Option Reply

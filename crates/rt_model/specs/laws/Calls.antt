@@ -13,6 +13,7 @@ use Rattle.rt_model.specs.declared.event.Event.{Event}
 use Rattle.rt_model.specs.declared.event_kind.EventKind.{EventKind}
 use Rattle.rt_model.specs.declared.event_kind.EventKind.TheVariants as kinds
 use Rattle.rt_model.specs.Choice.{called_lock}
+use Rattle.rt_model.specs.steps.Task.{state_number}
 use Rattle.rt_model.specs.State.{State, start, task_part, thread_part}
 use Rattle.rt_model.specs.Run.{after, ended_of}
 use Rattle.rt_model.specs.laws.Keys.{StandsAt}
@@ -42,18 +43,43 @@ can_have_signalled kinds.Walk (Some replies.Interrupted) = true
 can_have_signalled kinds.WalkEnd (Some replies.Interrupted) = true
 can_have_signalled _ _ = false
 
+-- one that sleeps in an ordinary state is refused inside a spinning kind
+abbrev pub can_have_nested : EventKind → Option Reply → Bool
+can_have_nested kinds.Own (Some replies.Nesting) = true
+can_have_nested _ _ = false
+
+-- one that tries, one that releases, and one that wakes or signals can have these
+abbrev pub can_have_trying : EventKind → Option Reply → Bool
+can_have_trying kinds.Fast (Some replies.Got) = true
+can_have_trying kinds.Take (Some replies.Got) = true
+can_have_trying kinds.Busy (Some replies.Busy) = true
+can_have_trying _ _ = false
+
+abbrev pub can_have_releasing : EventKind → Option Reply → Bool
+can_have_releasing kinds.Free (Some replies.Done) = true
+can_have_releasing kinds.Give (Some replies.Done) = true
+can_have_releasing kinds.Own (Some replies.NotOwner) = true
+can_have_releasing _ _ = false
+
+abbrev pub can_have_waking : EventKind → Option Reply → Bool
+can_have_waking kinds.Wake (Some replies.Woke) = true
+can_have_waking kinds.Wake (Some replies.Missed) = true
+can_have_waking _ _ = false
+
 -- the call can have an event of this kind with this answer; so far of the calls that are played
 abbrev pub can_have : Call → EventKind → Option Reply → Bool
-can_have (calls.Lock l) kind reply = can_have_waiting kind reply
-can_have (calls.LockInt l) kind reply = can_have_waiting kind reply || can_have_signalled kind reply
-can_have (calls.TryLock l) kinds.Fast (Some replies.Got) = true
-can_have (calls.TryLock l) kinds.Take (Some replies.Got) = true
-can_have (calls.TryLock l) kinds.Busy (Some replies.Busy) = true
-can_have (calls.Unlock l) kinds.Free (Some replies.Done) = true
-can_have (calls.Unlock l) kinds.Give (Some replies.Done) = true
-can_have (calls.Unlock l) kinds.Own (Some replies.NotOwner) = true
-can_have (calls.Signal t) kinds.Wake (Some replies.Woke) = true
-can_have (calls.Signal t) kinds.Wake (Some replies.Missed) = true
+can_have (calls.Lock l) kind reply = can_have_waiting kind reply || can_have_nested kind reply
+can_have (calls.LockInt l) kind reply = can_have_waiting kind reply || can_have_nested kind reply || can_have_signalled kind reply
+can_have (calls.TryLock l) kind reply = can_have_trying kind reply
+can_have (calls.Unlock l) kind reply = can_have_releasing kind reply
+can_have (calls.Spin l) kind reply = can_have_waiting kind reply
+can_have (calls.TrySpin l) kind reply = can_have_trying kind reply
+can_have (calls.Unspin l) kind reply = can_have_releasing kind reply
+can_have (calls.State state) kinds.State (Some replies.Done) = true
+can_have calls.Schedule kinds.Sched (Some replies.Done) = true
+can_have calls.Schedule kind reply = can_have_nested kind reply
+can_have (calls.Wake t) kind reply = can_have_waking kind reply
+can_have (calls.Signal t) kind reply = can_have_waking kind reply
 can_have (calls.SetPrio t prio) kinds.SetPrio None = true
 can_have (calls.SetPrio t prio) kinds.SetPrio (Some replies.Done) = true
 can_have (calls.SetPrio t prio) kinds.Walk None = true
@@ -61,13 +87,15 @@ can_have (calls.SetPrio t prio) kinds.Walk (Some replies.Done) = true
 can_have (calls.SetPrio t prio) kinds.WalkEnd (Some replies.Done) = true
 can_have _ _ _ = false
 
--- the task that a call names, and the number, which for a signal is 1
+-- the task that a call names, and the number: a state's, 1 for a signal, a priority
 abbrev pub called_task : Call → Option TaskId
+called_task (calls.Wake t) = Some t
 called_task (calls.Signal t) = Some t
 called_task (calls.SetPrio t prio) = Some t
 called_task call = None
 
 abbrev pub called_number : Call → ℕ
+called_number (calls.State state) = state_number state
 called_number (calls.Signal t) = 1
 called_number (calls.SetPrio t prio) = prio
 called_number call = 0

@@ -6,6 +6,7 @@ use Rattle.rt_model.specs.laws.Shape.{IsShaped}
 use Rattle.rt_model.specs.laws.Phases.{PhasesLaw}
 use Rattle.rt_model.specs.laws.Rows.{RowsLaw}
 use Rattle.rt_model.specs.laws.Owners.{OwnersLaw}
+use Rattle.rt_model.specs.laws.Migration.{MigrationLaw}
 use Rattle.rt_model.specs.laws.KeptTops.{KeptTopsLaw}
 use Rattle.rt_model.specs.laws.Queued.{QueuedLaw}
 use Rattle.rt_model.specs.laws.States.{StatesLaw}
@@ -24,6 +25,7 @@ pub record IsLawful (s : State) (made : ℕ) : Type 0 where
   pub kept : KeptTopsLaw s
   pub queued : QueuedLaw s
   pub owners : OwnersLaw s
+  pub migration : MigrationLaw s
   pub states : StatesLaw s
   pub awake : AwakeTopLaw s
   pub keys : KeysLaw s

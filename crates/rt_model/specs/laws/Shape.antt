@@ -2,6 +2,7 @@
 use Rattle.std.specs.Prelude.{◌≡◌, ℕ, ◌<◌, ◌≤◌, List, length, map, All, IfSome}
 use Rattle.rt_base.specs.Script.{Script, TaskLine}
 use Rattle.rt_base.specs.declared.call.Call.{Call}
+use Rattle.rt_base.specs.declared.kind.Kind.{Kind}
 use Rattle.rt_base.specs.declared.limits.TheConstants.{MAX_TASKS, MAX_LOCKS, MAX_CALLS}
 use Rattle.rt_model.specs.declared.event.Event.{Event}
 use Rattle.rt_model.specs.declared.row.Row.{Row}
@@ -15,7 +16,7 @@ pub record IsThread (calls : List Call) (answered tasks locks : ℕ) : Type 0 wh
   pub few : length calls ≤ MAX_CALLS
   pub served : All (IsServed tasks locks) calls
 
--- the lists of the state fit together
+-- the lists of the state fit together, and each thread knows the same kinds of locks
 pub record IsShaped (s : State) : Type 0 where
   pub few_tasks : length s.threads ≤ MAX_TASKS
   pub few_locks : length s.locks ≤ MAX_LOCKS
@@ -23,6 +24,8 @@ pub record IsShaped (s : State) : Type 0 where
   pub tasks : length s.tasks ≡ length s.threads
   pub kept : All (λ (task : TaskPart). length task.kept ≡ length s.locks) s.tasks
   pub kinds : All (λ (thread : ThreadPart). length thread.kinds ≡ length s.locks) s.threads
+  pub known : List Kind
+  pub alike : All (λ (thread : ThreadPart). thread.kinds ≡ known) s.threads
   pub holds : All (λ (thread : ThreadPart). length thread.holds ≡ length s.locks) s.threads
   pub owners : All (λ (lock : OwnerPart). IfSome lock.owner (λ t. t.0 < length s.threads)) s.locks
   pub rows : All (λ (lock : OwnerPart). All (λ (row : Row). row.who < length s.threads) lock.rows) s.locks

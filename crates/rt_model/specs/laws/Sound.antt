@@ -8,18 +8,20 @@ use Rattle.rt_model.specs.laws.Holders.{HoldersLaw}
 use Rattle.rt_model.specs.laws.Deadlocks.{DeadlocksLaw}
 use Rattle.rt_model.specs.laws.Interrupts.{InterruptsLaw}
 use Rattle.rt_model.specs.laws.Cycles.{CyclesLaw}
+use Rattle.rt_model.specs.laws.Wakeups.{WakeupsLaw}
 use Rattle.rt_model.specs.laws.Priorities.{PriorityLaw}
 use Rattle.rt_model.specs.laws.Calls.{CallsLaw}
 use Rattle.rt_model.specs.laws.Rest.{RestLaw}
 
 -- each lock has one holder at most, and it is the owner; in every state every priority is right; a deadlock answer has its
--- cause, and so has an interrupted one; no cycle is passed over; each task's calls are made once and in order; in every state that
--- is at rest priorities are right over the whole graph, and no cycle stands
+-- cause, and so has an interrupted one; no cycle is passed over; no wakeup is lost in a wait for a spinning kind; each task's calls
+-- are made once and in order; in every state that is at rest priorities are right over the whole graph, and no cycle stands
 pub record IsSound (script : Script) (events : List Event) : Type 0 where
   pub holders : HoldersLaw (start script) events
   pub priorities : (prefix rest : List Event) → prefix ++ rest ≡ events → PriorityLaw (after (start script) prefix)
   pub deadlocks : DeadlocksLaw (start script) events
   pub interrupts : InterruptsLaw (start script) events
   pub cycles : CyclesLaw (start script) events
+  pub wakeups : WakeupsLaw script events
   pub calls : CallsLaw script events
   pub rest : (prefix rest : List Event) → prefix ++ rest ≡ events → RestLaw (after (start script) prefix)

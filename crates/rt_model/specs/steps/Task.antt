@@ -1,5 +1,5 @@
 -- Steps on a task.
-use Rattle.std.specs.Prelude.{ℕ, zero, suc, Bool, true, false, List, Option, Some, None, option_map, is_some, ◌||◌, if◌then◌else◌, slice_set}
+use Rattle.std.specs.Prelude.{ℕ, zero, suc, Bool, true, false, List, Option, Some, None, option_map, is_some, nat_eq, ◌&&◌, ◌||◌, if◌then◌else◌, slice_set}
 use Rattle.rt_base.specs.Kind.{spins}
 use Rattle.rt_base.specs.declared.call.Call.{Call}
 use Rattle.rt_base.specs.declared.call.Call.TheVariants as calls
@@ -94,9 +94,15 @@ abbrev pub woken_by : ℕ → TaskPart → TaskPart
 woken_by zero task = woken_up task
 woken_by (suc n) task = signalled task
 
--- whether a signal ended a sleep
+-- whether a wakeup ended a sleep, or one that is saved
+abbrev pub wake_answer : TaskPart → Reply
+wake_answer task = if sleeps task.state || sleeps task.saved then Woke else Missed
+
+-- whether a signal did
 abbrev pub signal_answer : TaskPart → Reply
 signal_answer task = if is_interruptible task.state || is_interruptible task.saved then Woke else Missed
+
+-- ---- lock wakeups
 
 -- the wait for a spinning kind ends
 abbrev pub lock_state_woken : TaskState → TaskState
@@ -106,3 +112,19 @@ lock_state_woken state = state
 -- lock wakeup: of a spinning kind it ends that wait alone, and else it is a wake
 abbrev pub lock_woken : Bool → TaskPart → TaskPart
 lock_woken spinning task = if spinning then record task { state = lock_state_woken task.state } else woken_up task
+
+-- ---- states that a task sets itself
+
+-- the number of a state in an event: R, S, D
+abbrev pub state_number : TaskState → ℕ
+state_number states.Running = 0
+state_number states.Interruptible = 1
+state_number _ = 2
+
+-- the state of a number: R, S or D
+abbrev pub state_numbered : ℕ → TaskState
+state_numbered value = if nat_eq value 0 then states.Running else if nat_eq value 1 then states.Interruptible else states.Uninterruptible
+
+-- a task that gives the processor up doesn't sleep where it runs, or where a signal is pending in an interruptible sleep
+abbrev pub passes : TaskPart → Bool
+passes task = runs task.state || (is_interruptible task.state && task.signal)

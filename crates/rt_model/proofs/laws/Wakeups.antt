@@ -1,0 +1,132 @@
+-- The states of tasks and the answers of wakeups along a run are the flat wakeup machine's.
+use Rattle.std.proofs.Common.{◌≡◌, ℕ, suc, ◌+◌, ◌<◌, Bool, true, false, cond, List, [], ◌∷◌, ◌++◌, length, refl, sym, ap, ◌∙◌, subst, Some}
+use Rattle.std.specs.Prelude.{is_some}
+use Rattle.std.specs.List.{fold}
+use Rattle.rt_base.specs.Script.{Script, TaskLine}
+use Rattle.rt_base.specs.declared.id.TaskId.{TaskId}
+use Rattle.rt_base.specs.declared.reply.Reply.{Reply}
+use Rattle.rt_model.specs.declared.event.Event.{Event}
+use Rattle.rt_model.specs.declared.event_kind.EventKind.TheVariants as kinds
+use Rattle.rt_model.specs.Parts.{TaskPart, ThreadPart}
+use Rattle.rt_model.specs.State.{State, start, fresh_task, fresh_thread, kinds_in, no_task, no_thread, task_part, thread_part}
+use Rattle.rt_model.specs.StateAfter.{state_after}
+use Rattle.rt_model.specs.Run.{after, IsRun}
+use Rattle.rt_model.specs.laws.Flat.{first_place, Flat, first_flat, flat_answer, is_wakeup, Followed, follow_event, flat_of}
+use Rattle.rt_model.specs.laws.Lawful.{IsLawful}
+use Rattle.rt_model.specs.laws.Shape.{IsOf}
+use Rattle.rt_model.specs.laws.Wakeups.{flat_state, WakeupsLaw}
+use Rattle.rt_model.proofs.Lists.{All-read, All-made}
+use Rattle.rt_model.proofs.NextEvents.{IsNext, by_own, by_acquire, by_wait, by_release, by_walk, by_confirm, by_wakeup, by_setprio}
+use Rattle.rt_model.proofs.Prefixes.{run-prefix, run-next, run-lawful, lawful-there, next-there, next-task, IsOf-along}
+use Rattle.rt_model.proofs.Starts.{IsOf-start}
+use Rattle.rt_model.proofs.Waiters.{blocking}
+use Rattle.rt_model.proofs.events.Acquire.{is_fast, is_mark, is_take, is_busy}
+use Rattle.rt_model.proofs.events.Wait.{is_wait, is_again, is_leave}
+use Rattle.rt_model.proofs.events.Release.{is_free, is_give}
+use Rattle.rt_model.proofs.events.Wakeups.{is_state, is_sched, is_wake, is_signal}
+use Rattle.rt_model.proofs.events.Walk.{is_walk, is_walkend, is_restart, is_cycle}
+use Rattle.rt_model.proofs.laws.Shape.{IsOf-after, IsOf-threads}
+use Rattle.rt_model.proofs.laws.Flat.{spins_in, fields, flat_at, wake-answer, signal-answer}
+use Rattle.rt_model.proofs.laws.Holders.{other_kind}
+use Rattle.rt_model.proofs.laws.Followed.{spins-of, rests, followed_at, targeted, follows}
+
+-- ---- along a run
+
+along : (script : Script) (s : State) (made : ℕ) (events : List Event) → IsLawful s made → IsOf script s → IsRun s events → (u : TaskId) → u.0 < length script.tasks
+    → fold (follow_event script u) (followed_at script s u) events ≡ followed_at script (after s events) u
+along script s made [] lawful scripted run u lt = refl
+along script s made (e ∷ events) lawful scripted run u lt =
+    let there = next-task s e.task e run.0 in
+    let left = run-lawful s made e events lawful run in
+    let within = subst (λ (n : ℕ). u.0 < n) (sym (IsOf-threads script s scripted)) lt in
+    ap (λ (at : Followed). fold (follow_event script u) at events) (follows script s made e lawful scripted there left.rows (run-next s made e events lawful run) u within)
+    ∙ along script (state_after s e) (suc made) events left (IsOf-after script s e there scripted) run.1 u lt
+
+-- at the start no call is answered, and each task runs
+task-start : (script : Script) (P : TaskPart → Type 0) (t : TaskId) → ((n own : ℕ) → P (fresh_task n own)) → P (task_part (start script) t)
+task-start script P t holds =
+    All-read P (start script).tasks t.0 no_task (All-made P (λ (line : TaskLine). fresh_task (length script.locks) line.own) (λ line. holds (length script.locks) line.own) script.tasks) (holds 0 0)
+
+thread-start : (script : Script) (t : TaskId) → (thread_part (start script) t).answered ≡ 0
+thread-start script t =
+    let fresh : TaskLine → ThreadPart = λ line. fresh_thread (kinds_in script) line.calls line.cpu in
+    All-read (λ (thread : ThreadPart). thread.answered ≡ 0) (start script).threads t.0 no_thread (All-made (λ (thread : ThreadPart). thread.answered ≡ 0) fresh (λ line. refl) script.tasks) refl
+
+followed-start : (script : Script) (t : TaskId) → record { place = first_place; flat = first_flat } ≡ followed_at script (start script) t
+followed-start script t = λ i. record {
+  place = record { answered = sym (thread-start script t) i; queued = sym (task-start script (λ task. is_some task.blocked ≡ false) t (λ n own. refl)) i };
+  flat = sym (task-start script (λ task. flat_at script task ≡ first_flat) t (λ n own. refl)) i;
+}
+
+-- ---- the law
+
+-- an answer of a wakeup or a signal
+record IsAnswered (script : Script) (s : State) (e : Event) : Type 0 where
+  target : TaskId
+  there : target.0 < length s.threads
+  named : e.other ≡ Some target
+  answer : e.reply ≡ Some (flat_answer e.value (flat_at script (task_part s target)))
+
+module _ (script : Script) (s : State) (made : ℕ) (e : Event) (lawful : IsLawful s made) (scripted : IsOf script s) where
+  -- one that comes about as a wakeup or a signal
+  answers_as : (v : TaskId) (n : ℕ) (reply : Reply) → v.0 < length s.threads → e ≡ targeted e.task v n (Some reply) → reply ≡ flat_answer n (flat_at script (task_part s v)) → IsAnswered script s e
+  answers_as v n reply within is same = record {
+    target = v;
+    there = within;
+    named = ap (λ (x : Event). x.other) is;
+    answer = ap (λ (x : Event). x.reply) is ∙ (ap Some same ∙ sym (ap (λ (x : Event). Some (flat_answer x.value (flat_at script (task_part s v)))) is));
+  }
+
+  answered : IsNext s e.task e → is_wakeup e.kind ≡ true → IsAnswered script s e
+  answered (by_wakeup (is_wake v is)) wakeup = answers_as v 0 _ is.at.served is.event (wake-answer (spins_in script (blocking (task_part s v).blocked)) (task_part s v) (rests script s scripted v lawful.states is.at.served))
+  answered (by_wakeup (is_signal v is)) wakeup = answers_as v 1 _ is.at.served is.event (signal-answer (spins_in script (blocking (task_part s v).blocked)) (task_part s v) (rests script s scripted v lawful.states is.at.served))
+  answered (by_wakeup (is_state state is)) wakeup = absurd (other_kind is_wakeup e _ is.event refl wakeup)
+  answered (by_wakeup (is_sched is)) wakeup = absurd (other_kind is_wakeup e _ is.event refl wakeup)
+  answered (by_own call answer is) wakeup = absurd (other_kind is_wakeup e _ is.event refl wakeup)
+  answered (by_acquire l (is_fast is)) wakeup = absurd (other_kind is_wakeup e _ is.event refl wakeup)
+  answered (by_acquire l (is_mark is)) wakeup = absurd (other_kind is_wakeup e _ is.event refl wakeup)
+  answered (by_acquire l (is_take is)) wakeup = absurd (other_kind is_wakeup e _ is.event refl wakeup)
+  answered (by_acquire l (is_busy is)) wakeup = absurd (other_kind is_wakeup e _ is.event refl wakeup)
+  answered (by_wait l (is_wait is)) wakeup = absurd (other_kind is_wakeup e _ is.event refl wakeup)
+  answered (by_wait l (is_again is)) wakeup = absurd (other_kind is_wakeup e _ is.event refl wakeup)
+  answered (by_wait l (is_leave is)) wakeup = absurd (other_kind is_wakeup e _ is.event refl wakeup)
+  answered (by_release l (is_free is)) wakeup = absurd (other_kind is_wakeup e _ is.event refl wakeup)
+  answered (by_release l (is_give is)) wakeup = absurd (other_kind is_wakeup e _ is.event refl wakeup)
+  answered (by_walk route u (is_walk l key is)) wakeup = absurd (other_kind is_wakeup e _ is.event refl wakeup)
+  answered (by_walk route u (is_walkend is)) wakeup = absurd (other_kind is_wakeup e _ is.event refl wakeup)
+  answered (by_confirm l path (is_restart link is)) wakeup = absurd (other_kind is_wakeup e _ is.event refl wakeup)
+  answered (by_confirm l path (is_cycle is)) wakeup = absurd (other_kind is_wakeup e _ is.event refl wakeup)
+  answered (by_setprio u prio is) wakeup = absurd (other_kind is_wakeup e _ is.event refl wakeup)
+
+module _ (script : Script) (events : List Event) (lawful : IsLawful (start script) 0) (run : IsRun (start script) events) where
+  there : (prefix rest : List Event) → prefix ++ rest ≡ events → IsOf script (after (start script) prefix)
+  there prefix rest is = IsOf-along script (start script) prefix (IsOf-start script) (run-prefix (start script) prefix rest (subst (IsRun (start script)) (sym is) run))
+
+  -- the two fields of a task after a prefix
+  flat-there : (prefix rest : List Event) (t : TaskId) → prefix ++ rest ≡ events → t.0 < length script.tasks → flat_of script t prefix ≡ flat_at script (task_part (after (start script) prefix) t)
+  flat-there prefix rest t is lt =
+      ap (λ (at : Followed). (fold (follow_event script t) at prefix).flat) (followed-start script t)
+      ∙ ap (λ (at : Followed). at.flat)
+      (along script (start script) 0 prefix lawful (IsOf-start script) (run-prefix (start script) prefix rest (subst (IsRun (start script)) (sym is) run)) t lt)
+
+  state-there : (prefix rest : List Event) (t : TaskId) → prefix ++ rest ≡ events → t.0 < length script.tasks
+      → flat_state (thread_part (after (start script) prefix) t) (task_part (after (start script) prefix) t) ≡ (flat_of script t prefix).state
+  state-there prefix rest t is lt =
+      let s = after (start script) prefix in
+      let within = subst (λ (n : ℕ). t.0 < n) (sym (IsOf-threads script s (there prefix rest is))) lt in
+      ap (λ (b : Bool). cond b (task_part s t).saved (task_part s t).state) (spins-of script s (there prefix rest is) t (task_part s t).blocked within) ∙ sym (ap (λ (flat : Flat). flat.state) (flat-there prefix rest t is lt))
+
+  answer-there : (prefix rest : List Event) (e : Event) → prefix ++ e ∷ rest ≡ events → e.kind ≡ kinds.Wake → (u : TaskId) × (e.other ≡ Some u) × (e.reply ≡ Some (flat_answer e.value (flat_of script u prefix)))
+  answer-there prefix rest e is kind =
+      let s = after (start script) prefix in
+      let scripted = there prefix (e ∷ rest) is in
+      let its = answered script s _ e (lawful-there (start script) 0 events lawful run prefix (e ∷ rest) is) scripted (next-there (start script) 0 events lawful run prefix rest e is) (ap is_wakeup kind) in
+      let lt = subst (λ (n : ℕ). its.target.0 < n) (IsOf-threads script s scripted) its.there in
+      (its.target, its.named, its.answer ∙ sym (ap (λ (flat : Flat). Some (flat_answer e.value flat)) (flat-there prefix (e ∷ rest) its.target is lt)))
+
+  pub wakeups-law : WakeupsLaw script events
+  wakeups-law = record {
+    states = state-there;
+    signals = λ prefix rest t is lt. sym (ap (λ (flat : Flat). flat.signal) (flat-there prefix rest t is lt));
+    answers = answer-there;
+  }

@@ -1,7 +1,3 @@
-pub mod Shared
-pub mod Thread
-pub mod Walking
-pub mod Links
 pub mod TaskSet
 pub mod Core
 pub mod Enabled
@@ -36,3 +32,7 @@ pub use Rattle.rt_events.specs.WellFormed
 pub use Rattle.rt_walk.specs.Link
 pub use Rattle.rt_walk.specs.Next
 pub use Rattle.rt_walk.specs.Step
+pub use Rattle.rt_parts.specs.Shared
+pub use Rattle.rt_parts.specs.Thread
+pub use Rattle.rt_parts.specs.Links
+pub use Rattle.rt_choice.specs.Walking

@@ -10,14 +10,10 @@ mod graph_tests;
 mod machine;
 #[cfg(test)]
 mod machine_tests;
-mod next;
 mod note;
 mod playable;
 mod report;
-mod shared;
-mod start;
 mod task_set;
-mod thread;
 
 pub use machine::Core;
 pub use note::Note;

@@ -12,6 +12,8 @@ ghost use Rattle.rt_model.specs.Run.{is_done, is_stuck, is_enabled, lowest};
 ghost use Rattle.rt_model.specs.Order.{in_walk, is_walking};
 ghost use Rattle.rt_model.specs.laws.Shape.{IsOf, IsWithin, SameSize};
 ghost use Rattle.rt_model.specs.laws.Lawful.{IsLawful};
+ghost use Rattle.rt_model.specs.laws.States.{waits_spinning};
+ghost use Rattle.rt_model.specs.laws.Wakeups.{flat_state};
 ghost use Rattle.rt_model.specs.laws.Local.{AgreeOn};
 ghost use Rattle.rt_events.specs.Entry.{entry};
 ghost use Rattle.rt_events.specs.WellFormed.{IsWellFormed};
@@ -20,17 +22,15 @@ ghost use Rattle.rt_core.specs.Core.{Made};
 
 use crate::effect::make;
 use crate::enabled::Enabled;
-use crate::next::{confirmed_event, event_of, next_of};
 use crate::note::Note;
 use crate::playable::is_playable;
 use crate::report::{write_lock_line, write_task_line};
-use crate::shared::Shared;
-use crate::start::threads;
-use crate::thread::Thread;
 use rt_base::limits::{LINE_LIMIT, MAX_TASKS};
-use rt_base::{Call, LockId, NoMemory, Prio, TaskId};
+use rt_base::{Call, LockId, NoMemory, Prio, TaskId, TaskState};
+use rt_choice::{confirmed_event, event_of, next_of};
 use rt_locks::LockCell;
 use rt_model::{Event, Phase, Row};
+use rt_parts::{Shared, Thread, threads};
 use rt_script::Script;
 use rt_tasks::TaskCell;
 use std::alloc::Global;
@@ -61,8 +61,9 @@ impl Model for Core {
 }
 
 impl Core {
-    /// Whether the machine plays a script, so far one whose locks are all mutexes, and whose tasks take and
-    /// release them, send signals and set priorities.
+    /// Whether the machine plays a script, so far one whose locks are mutexes and spinlocks, and whose tasks
+    /// take and release them, set states and give the processor up, wake and signal each other, and set
+    /// priorities.
     pub fn can(script: &Script) -> bool
         ensures { IsTrue result ↔ IsPlayable script.now }
     {
@@ -117,6 +118,20 @@ impl Core {
         ensures { result.now ≡ task_part self.now.state t }
     {
         self.shared.task(t)
+    }
+
+    /// The state of a task as it would be if spinlocks didn't put it to sleep: the saved one while it waits for
+    /// a spinning kind, else its state.
+    pub fn flat_state(&self, t: TaskId) -> TaskState
+        requires { t.0 < length self.now.state.threads }
+        ensures { result ≡ flat_state (thread_part self.now.state t) (task_part self.now.state t) }
+    {
+        let task = self.cell(t);
+        if waits_spinning(self.thread(t), task) {
+            task.saved()
+        } else {
+            task.state()
+        }
     }
 
     // A task's thread.
@@ -311,6 +326,17 @@ impl Core {
         ensures capacity { vec_capacity out.old ≤ vec_capacity out.new }
     {
         write_lock_line(script, l, self.lock(l), self.shared.readers(l), out);
+    }
+}
+
+// Whether the task of this thread waits for a lock of a spinning kind.
+fn waits_spinning(thread: &Thread, task: &TaskCell) -> bool
+    requires { IfSome task.now.blocked (λ at. at.0.0 < length thread.now.kinds) }
+    ensures { result ≡ waits_spinning thread.now task.now }
+{
+    match task.blocked() {
+        Some(l) => thread.kind_of(l).spins(),
+        None => false,
     }
 }
 

@@ -5,7 +5,6 @@ ghost use Rattle.rt_events.specs.Words.{spaced};
 ghost use Rattle.rt_core.specs.Report.{bit_word, priority_words, progress_words, note_words, note_key, task_line_of, owner_words, reader_part_words, row_word, lock_line_of, IsNoteWithin};
 
 use crate::note::Note;
-use crate::thread::Thread;
 use rt_base::limits::{LINE_LIMIT, MAX_PRIO, MAX_TASKS};
 use rt_base::{Kind, LockId, TaskId};
 use rt_events::{
@@ -14,6 +13,7 @@ use rt_events::{
 };
 use rt_locks::LockCell;
 use rt_model::{ReaderCell, Row};
+use rt_parts::Thread;
 use rt_script::Script;
 use rt_tasks::TaskCell;
 

@@ -5,6 +5,8 @@ mod lock_cell;
 #[cfg(test)]
 mod lock_cell_tests;
 mod reason;
+#[cfg(test)]
+mod stealing_tests;
 mod top;
 
 pub use lock_cell::LockCell;

@@ -6,10 +6,9 @@ ghost use Rattle.rt_model.specs.StateAfter.{update};
 ghost use Rattle.rt_model.specs.steps.Lock.{taken_by};
 ghost use Rattle.rt_model.specs.events.Acquire.{taker};
 
-use crate::shared::Shared;
-use crate::thread::Thread;
 use rt_base::{Kind, LockId};
 use rt_model::{Event, Phase};
+use rt_parts::{Shared, Thread};
 
 /// The task is the owner.
 pub fn fast(shared: &mut Shared, e: &Event, l: LockId)

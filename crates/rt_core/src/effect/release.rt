@@ -5,9 +5,9 @@ ghost use Rattle.rt_model.specs.StateAfter.{update, at_task};
 ghost use Rattle.rt_model.specs.steps.Lock.{given_up};
 ghost use Rattle.rt_model.specs.steps.Task.{with_top, lock_woken};
 
-use crate::shared::Shared;
 use rt_base::{Kind, LockId};
 use rt_model::Event;
+use rt_parts::Shared;
 
 /// The lock has no owner.
 pub fn free(shared: &mut Shared, l: LockId)

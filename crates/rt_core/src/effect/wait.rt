@@ -13,11 +13,10 @@ ghost use Rattle.rt_model.specs.steps.Chain.{goes_on, phase_of_walk};
 ghost use Rattle.rt_model.specs.events.Wait.{phase_after_wait};
 
 use crate::effect::walk::first_phase;
-use crate::shared::Shared;
-use crate::thread::Thread;
 use rt_base::limits::{MAX_LOCKS, MAX_TASKS};
 use rt_base::{LockId, Path, Reply, TaskId, TaskState};
 use rt_model::{Event, Phase, Route};
+use rt_parts::{Shared, Thread};
 
 /// The task is queued and blocked, and the lock's owner keeps the key of its top waiter.
 pub fn wait(shared: &mut Shared, thread: &mut Thread, e: &Event, l: LockId)

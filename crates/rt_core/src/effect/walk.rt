@@ -17,12 +17,11 @@ ghost use Rattle.rt_walk.specs.Next.{found};
 ghost use Rattle.rt_core.specs.Fits.{IsLink};
 
 use crate::effect::wait::leave_row;
-use crate::next::is_old;
-use crate::shared::Shared;
-use crate::thread::Thread;
 use rt_base::{LockId, Path, Reply, TaskId};
+use rt_choice::is_old;
 use rt_events::first_owner;
 use rt_model::{Event, Phase, Route};
+use rt_parts::{Shared, Thread};
 use rt_tasks::TaskCell;
 
 /// The cursor is queued anew where its key is old, the lock's owner keeps the key of its top waiter, or that

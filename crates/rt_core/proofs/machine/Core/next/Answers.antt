@@ -18,7 +18,7 @@ use Rattle.rt_model.proofs.Named.{within}
 use Rattle.rt_events.specs.Entry.{entry}
 use Rattle.rt_events.specs.WellFormed.{IsWellFormed}
 use Rattle.rt_core.specs.Core.{Made, with_threads}
-use Rattle.rt_core.specs.Walking.{FindsCursor}
+use Rattle.rt_choice.specs.Walking.{FindsCursor}
 use Rattle.rt_core.proofs.Choosing.{served-here, path-here, cursor-here, confirmed-next}
 use Rattle.rt_core.proofs.Boosts.{boost-within}
 use Rattle.rt_core.proofs.EntryWellFormed.{well_formed}

@@ -1,0 +1,12 @@
+pub mod Walking
+pub use Rattle.rt_model.specs.Parts
+pub use Rattle.rt_model.specs.Rows
+pub use Rattle.rt_model.specs.State
+pub use Rattle.rt_model.specs.Stage
+pub use Rattle.rt_model.specs.Path
+pub use Rattle.rt_model.specs.Choice
+pub use Rattle.rt_model.specs.steps
+pub use Rattle.rt_model.specs.events
+pub use Rattle.rt_model.specs.NextEvent
+pub use Rattle.rt_model.specs.laws
+pub use Rattle.rt_walk.specs.Link

@@ -1,6 +1,0 @@
-use Rattle.std.proofs.Common.{false}
-use Rattle.rt_core.proofs.SharedSteps.{task-set}
-use Rattle.rt_core.proofs.shared.Shared.clear_signal.Goals as goal
-
-pub returns : goal.returns
-returns c = task-set _ _ _ _ c.self.view_is c.args.t.0 c.index_mut.result.now _ (λ task. record task { signal = false }) c.requires c.index_mut.ensures.value c.clear_signal.ensures

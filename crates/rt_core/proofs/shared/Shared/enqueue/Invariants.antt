@@ -1,4 +1,0 @@
-use Rattle.rt_core.proofs.shared.Shared.enqueue.Given as goal
-
-abbrev pub ghosts-enqueue : goal.ghosts-enqueue
-ghosts-enqueue a = record { name = a.blank.name; parts = a.blank.parts }

@@ -1,4 +1,0 @@
-use Rattle.rt_core.proofs.shared.Shared.link.Given as goal
-
-abbrev pub ghosts-link : goal.ghosts-link
-ghosts-link a = record { name = a.blank.name; parts = a.blank.parts }

@@ -1,8 +1,0 @@
-use Rattle.std.proofs.Common.{ap}
-use Rattle.std.proofs.Common.{Some}
-use Rattle.rt_locks.specs.OwnerCell.{OwnerCell}
-use Rattle.rt_core.proofs.SharedSteps.{lock-set}
-use Rattle.rt_core.proofs.shared.Shared.set_owner.Goals as goal
-
-pub returns : goal.returns
-returns c = lock-set _ _ _ _ c.self.view_is c.args.l.0 c.index_mut.result.now _ (λ lock. record lock { owner = Some c.args.t }) c.requires.lock c.index_mut.ensures.value (ap (λ (cell : OwnerCell). cell.part) c.set_owner.ensures)

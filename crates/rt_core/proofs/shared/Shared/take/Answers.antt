@@ -1,8 +1,0 @@
-use Rattle.std.proofs.Common.{ap}
-use Rattle.rt_model.specs.steps.Lock.{taken_by}
-use Rattle.rt_locks.specs.OwnerCell.{OwnerCell}
-use Rattle.rt_core.proofs.SharedSteps.{lock-set}
-use Rattle.rt_core.proofs.shared.Shared.take.Goals as goal
-
-pub returns : goal.returns
-returns c = lock-set _ _ _ _ c.self.view_is c.args.l.0 c.index_mut.result.now _ (taken_by c.args.t) c.requires.lock c.index_mut.ensures.value (ap (λ (cell : OwnerCell). cell.part) c.take.ensures)

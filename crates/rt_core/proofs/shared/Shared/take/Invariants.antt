@@ -1,4 +1,0 @@
-use Rattle.rt_core.proofs.shared.Shared.take.Given as goal
-
-abbrev pub ghosts-take : goal.ghosts-take
-ghosts-take a = record { name = a.blank.name; parts = a.blank.parts }

@@ -1,0 +1,7 @@
+pub mod Prefixes
+pub mod OwnerParts
+pub mod SharedSteps
+pub mod TwoCells
+pub mod Holds
+pub mod Starting
+pub mod Linking

@@ -1,0 +1,49 @@
+-- The cells that a core begins with fit together, and its calls are served.
+use Rattle.std.proofs.Common.{◌≡◌, ◌∙◌, ◌≤◌, ap, sym, subst, refl, arith, replicate, length, ℕ, map, List, All}
+use Rattle.std.proofs.lemmas.List.{length-map, length-replicate}
+use Rattle.std.proofs.lemmas.List.Elements.{All-replicate}
+use Rattle.rt_base.specs.Script.{TaskLine}
+use Rattle.rt_base.specs.declared.call.Call.{Call}
+use Rattle.rt_base.specs.declared.call.Call.TheVariants as calls
+use Rattle.rt_base.specs.declared.limits.TheConstants.{MAX_TASKS}
+use Rattle.rt_model.specs.Stage.{IsServed}
+use Rattle.rt_model.specs.declared.reader_cell.ReaderCell.{ReaderCell}
+use Rattle.rt_model.specs.Parts.{TaskPart}
+use Rattle.rt_model.specs.State.{free_lock, fresh_task}
+use Rattle.rt_model.proofs.Lists.{All-made}
+use Rattle.rt_locks.specs.OwnerCell.{OwnerCell}
+use Rattle.rt_parts.specs.Shared.{IsAmong, IsShared}
+
+-- a free lock's cell, for so many tasks
+abbrev free_cell : ℕ → OwnerCell
+free_cell tasks = record { part = free_lock; tasks = tasks }
+
+pub start-fits : (n : ℕ) (lines : List TaskLine) (cells : List OwnerCell) (readers : List ReaderCell) (tasks : List TaskPart) (r : ReaderCell) → n ≤ 256 → length lines ≤ 64
+    → cells ≡ replicate n (free_cell (length lines)) → readers ≡ replicate n r → tasks ≡ map (λ (line : TaskLine). fresh_task n line.own) lines → IsShared cells readers tasks
+start-fits n lines cells readers tasks r few_locks few_tasks is_cells is_readers is_tasks =
+    let locks : length cells ≡ n = ap length is_cells ∙ length-replicate n (free_cell (length lines)) in
+    let long : length tasks ≡ length lines = ap length is_tasks ∙ length-map lines (λ (line : TaskLine). fresh_task n line.own) in
+    let parts : length readers ≡ n = ap length is_readers ∙ length-replicate n r in
+    record {
+      few_locks = rw locks few_locks;
+      few_tasks = rw long few_tasks;
+      locks = rw long (subst (λ (xs : List OwnerCell). All (IsAmong (length lines)) xs) (sym is_cells) (All-replicate (IsAmong (length lines)) n (free_cell (length lines)) (record { room = refl; owner = tt })));
+      readers = parts ∙ sym locks;
+      kept = rw locks (subst (λ (xs : List TaskPart). All (λ (task : TaskPart). length task.kept ≡ n) xs) (sym is_tasks) (All-made (λ (task : TaskPart). length task.kept ≡ n) (λ (line : TaskLine). fresh_task n line.own) (λ line. length-replicate n _) lines));
+    }
+
+-- a call that is served among so many tasks is so among as many as there may be
+pub served-more : (tasks locks : ℕ) (call : Call) → tasks ≤ MAX_TASKS → IsServed tasks locks call → IsServed MAX_TASKS locks call
+served-more tasks locks (calls.Lock l) few served = served
+served-more tasks locks (calls.LockInt l) few served = served
+served-more tasks locks (calls.TryLock l) few served = served
+served-more tasks locks (calls.Unlock l) few served = served
+served-more tasks locks (calls.Spin l) few served = served
+served-more tasks locks (calls.TrySpin l) few served = served
+served-more tasks locks (calls.Unspin l) few served = served
+served-more tasks locks (calls.State state) few served = served
+served-more tasks locks calls.Schedule few served = served
+served-more tasks locks (calls.Wake t) few served = omega (arith, served, few)
+served-more tasks locks (calls.Signal t) few served = omega (arith, served, few)
+served-more tasks locks (calls.SetPrio t prio) few served = (omega (arith, served.0, few), served.1)
+served-more tasks locks _ few served = absurd served

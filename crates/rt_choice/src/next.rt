@@ -13,7 +13,7 @@ use crate::chosen::Chosen;
 use crate::own::{own_answer, own_event};
 use crate::release::release_event;
 use crate::wait::{queued_event, slow_event};
-use crate::wakeups::{setprio_event, signal_event};
+use crate::wakeups::{schedule_event, setprio_event, signal_event, state_event, wake_event};
 use crate::walk::cursor_event;
 use rt_base::limits::MAX_TASKS;
 use rt_base::{Call, TaskId};
@@ -59,12 +59,19 @@ fn first_event(shared: &Shared, t: TaskId, thread: &Thread, call: &Call) -> Opti
     ensures { result ≡ first_event shared.now t thread.now call.now }
 {
     match call {
-        Call::Lock(l) | Call::LockInt(l) => Some(acquire_event(t, *l, shared.lock(*l))),
-        Call::TryLock(l) => {
+        Call::Lock(l) | Call::LockInt(l) | Call::Spin(l) => {
+            Some(acquire_event(t, *l, shared.lock(*l)))
+        }
+        Call::TryLock(l) | Call::TrySpin(l) => {
             let kind = thread.kind_of(*l);
             Some(try_event(t, *l, kind, shared.lock(*l), shared.task(t)))
         }
-        Call::Unlock(l) => Some(release_event(t, *l, shared.lock(*l), shared.task(t))),
+        Call::Unlock(l) | Call::Unspin(l) => {
+            Some(release_event(t, *l, shared.lock(*l), shared.task(t)))
+        }
+        Call::State(state) => Some(state_event(t, *state)),
+        Call::Schedule => schedule_event(t, shared.task(t)),
+        Call::Wake(u) => Some(wake_event(t, *u, shared.task(*u))),
         Call::Signal(u) => Some(signal_event(t, *u, shared.task(*u))),
         Call::SetPrio(u, prio) => Some(setprio_event(t, *u, *prio, shared.task(*u))),
         _ => None,

@@ -28,7 +28,7 @@ use Rattle.rt_model.proofs.events.Acquire.{is_fast, is_mark, is_take, is_busy}
 use Rattle.rt_model.proofs.events.Wait.{is_wait, is_again, is_leave}
 use Rattle.rt_model.proofs.events.Walk.{is_walk, is_walkend, is_restart, is_cycle}
 use Rattle.rt_model.proofs.events.Release.{is_free, is_give}
-use Rattle.rt_model.proofs.NextEvents.{IsNext, by_own, by_acquire, by_wait, by_walk, by_confirm, by_signal, by_setprio, by_release, choice}
+use Rattle.rt_model.proofs.NextEvents.{IsNext, by_own, by_acquire, by_wait, by_walk, by_confirm, by_wakeup, by_setprio, by_release, choice}
 use Rattle.rt_model.proofs.Named.{within}
 use Rattle.rt_model.proofs.Waiters.{slow-unqueued, round-begins, walk-link}
 use Rattle.rt_model.proofs.laws.Rows.{blocked-queued}
@@ -44,6 +44,8 @@ use Rattle.rt_core.specs.declared.enabled.Enabled.{Enabled}
 use Rattle.rt_parts.specs.Links.{HasRoom}
 use Rattle.rt_core.specs.Fits.{NamesLock, CanQueue, CanLink, NamesOwner, CanSet, Fits}
 use Rattle.rt_core.proofs.Choosing.{cursor-within}
+use Rattle.rt_core.proofs.Counting.{answer-counts}
+use Rattle.rt_model.proofs.Calm.{wakeup-holds}
 
 -- ---- what an event finds
 
@@ -62,16 +64,6 @@ unkeyed (Some row) is = cc
 keyed : (row : Option Row) (key : ℕ) → option_map (λ (r : Row). r.key) row ≡ Some key → IsSome row
 keyed None key is = cc
 keyed (Some row) key is = refl
-
--- a call that its thread answers is on a lock
-called_lock-some : (s : State) (t : TaskId) (call : Call) (answer : Reply) → IsServed (length s.threads) (length s.locks) call → own_answer (thread_part s t) call ≡ Some answer → IsSome (called_lock (thread_part s t).cpu call)
-called_lock-some s t (calls.Lock l) answer served is = refl
-called_lock-some s t (calls.LockInt l) answer served is = refl
-called_lock-some s t (calls.TryLock l) answer served is = refl
-called_lock-some s t (calls.Unlock l) answer served is = refl
-called_lock-some s t (calls.Signal u) answer served is = cc
-called_lock-some s t (calls.SetPrio u prio) answer served is = cc
-called_lock-some s t _ answer served is = absurd served
 
 -- what an event of its kind needs
 record IsReady (s : State) (t : TaskId) (e : Event) : Type 0 where
@@ -95,7 +87,7 @@ module _ (s : State) (made : ℕ) (t : TaskId) (lawful : IsLawful s made) (few :
       by_phase _ is = tt
 
   ready : (e : Event) → IsNext s t e → IsReady s t e
-  ready e (by_own call answer is) = subst (IsReady s t) (sym is.event) (record { named = called_lock-some s t call answer is.at.served is.why; queue = tt; link = tt; first = tt; set = tt })
+  ready e (by_own call answer is) = subst (IsReady s t) (sym is.event) (record { named = tt; queue = tt; link = tt; first = tt; set = tt })
   ready e (by_acquire l (is_fast is)) = subst (IsReady s t) (sym is.event) (record { named = refl; queue = tt; link = tt; first = tt; set = tt })
   ready e (by_acquire l (is_mark is)) = subst (IsReady s t) (sym is.event) (record { named = refl; queue = tt; link = tt; first = tt; set = tt })
   ready e (by_acquire l (is_take is)) = subst (IsReady s t) (sym is.event) (record { named = refl; queue = tt; link = tt; first = tt; set = tt })
@@ -131,7 +123,10 @@ module _ (s : State) (made : ℕ) (t : TaskId) (lawful : IsLawful s made) (few :
       let cycle : List (ℕ × ℕ) → Event = λ xs. cycle_event t xs (lock_at (shared s) (first_lock xs)) (task_at (shared s) (first_owner xs)) in
       let there = subst (λ (n : ℕ). round.owner.0 < n) (sym lawful.shape.tasks) round.there in
       subst (IsReady s t) (sym (is.event ∙ ap cycle round.is)) (record { named = refl; queue = tt; link = tt; first = there; set = tt })
-  ready e (by_signal u is) = subst (IsReady s t) (sym is.event) (record { named = tt; queue = tt; link = tt; first = tt; set = tt })
+  ready e (by_wakeup is) =
+      wakeup-holds (IsReady s t) s t e is
+      (λ state. record { named = tt; queue = tt; link = tt; first = tt; set = tt }) (record { named = tt; queue = tt; link = tt; first = tt; set = tt })
+      (λ u. record { named = tt; queue = tt; link = tt; first = tt; set = tt }) (λ u. record { named = tt; queue = tt; link = tt; first = tt; set = tt })
   ready e (by_setprio u prio is) = subst (IsReady s t) (sym is.event) (record { named = tt; queue = tt; link = tt; first = tt; set = record { target = refl; value = is.at.served.1 } })
   ready e (by_release l (is_free is)) = subst (IsReady s t) (sym is.event) (record { named = refl; queue = tt; link = tt; first = tt; set = tt })
   ready e (by_release l (is_give is)) = subst (IsReady s t) (sym is.event) (record { named = refl; queue = tt; link = tt; first = tt; set = tt })
@@ -161,6 +156,7 @@ fits s made e lawful few is =
       woken = there e.woken names.woken;
       kinds = All-default (λ (thread : ThreadPart). length thread.kinds ≡ length s.locks) s.threads e.task.0 _ lawful.shape.kinds names.task;
       call = answered e.reply (call_of (thread_part s e.task)) (calling s e.task e is);
+      count = answer-counts s made e.task e lawful chosen;
       queue = ready.queue;
       link = ready.link;
       first = ready.first;

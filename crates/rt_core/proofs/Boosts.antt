@@ -17,7 +17,8 @@ use Rattle.rt_model.specs.steps.Chain.{requeued_where_old, refreshed_where_chang
 use Rattle.rt_model.specs.events.Acquire.{taker}
 use Rattle.rt_model.specs.laws.Lawful.{IsLawful}
 use Rattle.rt_model.proofs.CellStepLemmas.{leave_queue-like, where_changed}
-use Rattle.rt_model.proofs.NextEvents.{IsNext, by_own, by_acquire, by_wait, by_walk, by_confirm, by_signal, by_setprio, by_release}
+use Rattle.rt_model.proofs.Calm.{wakeup-holds}
+use Rattle.rt_model.proofs.NextEvents.{IsNext, by_own, by_acquire, by_wait, by_walk, by_confirm, by_wakeup, by_setprio, by_release}
 use Rattle.rt_model.proofs.events.Acquire.{is_fast, is_mark, is_take, is_busy}
 use Rattle.rt_model.proofs.events.Wait.{is_wait, is_again, is_leave}
 use Rattle.rt_model.proofs.events.Walk.{is_walk, is_walkend, is_restart, is_cycle}
@@ -83,5 +84,5 @@ module _ (s : State) (made : ℕ) (t : TaskId) (e : Event) (lawful : IsLawful s 
   boost-within (by_wait l (is_again is)) = told e _ is.event tt
   boost-within (by_walk route u (is_walkend is)) = told e _ is.event tt
   boost-within (by_confirm l path (is_restart link is)) = told e _ is.event tt
-  boost-within (by_signal u is) = told e _ is.event tt
+  boost-within (by_wakeup is) = wakeup-holds (λ (x : Event). IsWithin x.boost) s t e is (λ state. tt) tt (λ u. tt) (λ u. tt)
   boost-within (by_release l (is_free is)) = told e _ is.event tt

@@ -1,5 +1,6 @@
 -- What the choice of an event finds in a lawful state.
 use Rattle.std.proofs.Common.{◌≡◌, ℕ, ◌<◌, List, [], ◌∷◌, length, refl, sym, ap, subst, arith, Option, Some, None, IfSome}
+use Rattle.std.specs.Prelude.{option_map}
 use Rattle.std.proofs.lemmas.List.Elements.{All-head}
 use Rattle.rt_base.specs.declared.call.Call.{Call}
 use Rattle.rt_base.specs.declared.id.LockId.{LockId}
@@ -46,6 +47,21 @@ module _ (s : State) (made : ℕ) (t : TaskId) (lawful : IsLawful s made) where
       by_call None is = tt
       by_call (Some call) is = served_call s t call lawful.stage is
 
+  -- the lock on which a task is blocked is there
+  pub blocked-within : (u : TaskId) → IfSome (task_part s u).blocked (λ at. at.0.0 < length s.locks)
+  blocked-within u = by_place (task_part s u).blocked refl
+    where
+      by_place : (blocked : Option (LockId × ℕ)) → (task_part s u).blocked ≡ blocked → IfSome blocked (λ at. at.0.0 < length s.locks)
+      by_place None is = tt
+      by_place (Some at) is = (WaitsFor-blocked s u at lawful.stage lawful.phases lawful.queued is).lock
+
+  pub blocked-lock : (u : TaskId) (l : LockId) → option_map (λ (at : LockId × ℕ). at.0) (task_part s u).blocked ≡ Some l → l.0 < length s.locks
+  blocked-lock u l is = by_place (task_part s u).blocked is (blocked-within u)
+    where
+      by_place : (blocked : Option (LockId × ℕ)) → option_map (λ (at : LockId × ℕ). at.0) blocked ≡ Some l → IfSome blocked (λ at. at.0.0 < length s.locks) → l.0 < length s.locks
+      by_place None is within = cc
+      by_place (Some at) is within = let same : at.0 ≡ l = cc in subst (λ (m : LockId). m.0 < length s.locks) same within
+
   -- a walk's cursor is there
   pub cursor-within : (u : TaskId) (route : Route) → (thread_part s t).phase ≡ phases.Walk u route → u.0 < length s.threads
   cursor-within u route is = of_route route (subst (IsWalkOf (length s.threads) (length s.locks) t (present_lock (thread_part s t))) is (lawful.walks t))
@@ -62,14 +78,10 @@ module _ (s : State) (made : ℕ) (t : TaskId) (lawful : IsLawful s made) where
   pub cursor-here : FindsCursor (shared s) (thread_part s t).phase
   cursor-here = by_phase (thread_part s t).phase refl
     where
-      blocked_there : (u : TaskId) (blocked : Option (LockId × ℕ)) → (task_part s u).blocked ≡ blocked → IfSome blocked (λ at. at.0.0 < length s.locks)
-      blocked_there u None is = tt
-      blocked_there u (Some at) is = (WaitsFor-blocked s u at lawful.stage lawful.phases lawful.queued is).lock
-
       by_phase : (phase : Phase) → (thread_part s t).phase ≡ phase → FindsCursor (shared s) phase
       by_phase (phases.Walk u route) is = record {
         task = subst (λ (n : ℕ). u.0 < n) (sym lawful.shape.tasks) (cursor-within u route is);
-        lock = blocked_there u (task_part s u).blocked refl;
+        lock = blocked-within u;
       }
       by_phase (phases.Confirm path) is = path-here path is
       by_phase _ is = tt

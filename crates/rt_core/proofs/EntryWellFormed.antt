@@ -18,7 +18,11 @@ use Rattle.rt_model.proofs.events.Acquire.{is_fast, is_mark, is_take, is_busy}
 use Rattle.rt_model.proofs.events.Wait.{is_wait, is_again, is_leave}
 use Rattle.rt_model.proofs.events.Walk.{is_walk, is_walkend, is_restart, is_cycle}
 use Rattle.rt_model.proofs.events.Release.{is_free, is_give}
-use Rattle.rt_model.proofs.NextEvents.{IsNext, by_own, by_acquire, by_wait, by_walk, by_confirm, by_signal, by_setprio, by_release}
+use Rattle.rt_base.specs.declared.state.TaskState.{TaskState}
+use Rattle.rt_base.specs.declared.state.TaskState.TheVariants as states
+use Rattle.rt_model.specs.steps.Task.{state_number}
+use Rattle.rt_model.proofs.events.Wakeups.{is_state, is_sched, is_wake, is_signal}
+use Rattle.rt_model.proofs.NextEvents.{IsNext, by_own, by_acquire, by_wait, by_walk, by_confirm, by_wakeup, by_setprio, by_release}
 use Rattle.rt_model.proofs.Named.{within}
 use Rattle.rt_events.specs.Entry.{entry, told_path}
 use Rattle.rt_events.specs.WellFormed.{IsTaskIn, IsLinkIn, HasLock, HasOther, HasWoken, HasValue, HasPath, IsWellFormed}
@@ -51,6 +55,12 @@ cycle_path script s made t l path of lawful asks =
     let many = is.many in
     (omega (arith, many), omega (arith, few, lawful.shape.few_tasks), named)
 
+-- a state has one of three numbers
+few-states : (state : TaskState) → state_number state ≤ 2
+few-states states.Running = omega arith
+few-states states.Interruptible = omega arith
+few-states _ = omega arith
+
 fields : (script : Script) (number : ℕ) (s : State) (made : ℕ) (t : TaskId) (e : Event) → IsOf script s → IsLawful s made → IsWithin (length script.tasks) (length script.locks) e → IsNext s t e → HasFields script number e
 fields script number s made t e of lawful names (by_own call answer how) = fields_of script number e _ how.event names (λ n. record { lock = n.lock; other = refl; woken = refl; value = refl; path = refl })
 fields script number s made t e of lawful names (by_acquire l (is_fast how)) = fields_of script number e _ how.event names (λ n. record { lock = n.lock; other = refl; woken = refl; value = refl; path = refl })
@@ -65,7 +75,11 @@ fields script number s made t e of lawful names (by_wait l (is_leave how)) = fie
 fields script number s made t e of lawful names (by_confirm l path (is_restart link how)) = fields_of script number e _ how.event names (λ n. record { lock = n.lock; other = n.other; woken = refl; value = refl; path = refl })
 fields script number s made t e of lawful names (by_confirm l path (is_cycle how)) =
     fields_of script number e _ how.event names (λ n. record { lock = refl; other = refl; woken = refl; value = refl; path = cycle_path script s made t l path of lawful how.at })
-fields script number s made t e of lawful names (by_signal u how) = fields_of script number e _ how.event names (λ n. record { lock = refl; other = n.other; woken = refl; value = omega arith; path = refl })
+fields script number s made t e of lawful names (by_wakeup (is_state state how)) =
+    fields_of script number e _ how.event names (λ n. record { lock = refl; other = refl; woken = refl; value = few-states state; path = refl })
+fields script number s made t e of lawful names (by_wakeup (is_sched how)) = fields_of script number e _ how.event names (λ n. record { lock = refl; other = refl; woken = refl; value = refl; path = refl })
+fields script number s made t e of lawful names (by_wakeup (is_wake u how)) = fields_of script number e _ how.event names (λ n. record { lock = refl; other = n.other; woken = refl; value = omega arith; path = refl })
+fields script number s made t e of lawful names (by_wakeup (is_signal u how)) = fields_of script number e _ how.event names (λ n. record { lock = refl; other = n.other; woken = refl; value = omega arith; path = refl })
 fields script number s made t e of lawful names (by_setprio u prio how) = fields_of script number e _ how.event names (λ n. record { lock = refl; other = n.other; woken = refl; value = how.at.served.1; path = refl })
 fields script number s made t e of lawful names (by_release l (is_free how)) = fields_of script number e _ how.event names (λ n. record { lock = n.lock; other = refl; woken = refl; value = refl; path = refl })
 fields script number s made t e of lawful names (by_release l (is_give how)) = fields_of script number e _ how.event names (λ n. record { lock = n.lock; other = refl; woken = n.woken; value = refl; path = refl })

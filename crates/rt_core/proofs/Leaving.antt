@@ -130,6 +130,8 @@ pub record IsOther (kind : EventKind) : Type 0 where
   pub cycle : kind ≢ kinds.Cycle
   pub walkend : kind ≢ kinds.WalkEnd
   pub restart : kind ≢ kinds.Restart
+  pub state : kind ≢ kinds.State
+  pub sched : kind ≢ kinds.Sched
   pub wake : kind ≢ kinds.Wake
   pub setprio : kind ≢ kinds.SetPrio
 
@@ -146,6 +148,8 @@ others-leave sh thread e kinds.Leave other = absurd (other.leave refl)
 others-leave sh thread e kinds.Cycle other = absurd (other.cycle refl)
 others-leave sh thread e kinds.WalkEnd other = absurd (other.walkend refl)
 others-leave sh thread e kinds.Restart other = absurd (other.restart refl)
+others-leave sh thread e kinds.State other = absurd (other.state refl)
+others-leave sh thread e kinds.Sched other = absurd (other.sched refl)
 others-leave sh thread e kinds.Wake other = absurd (other.wake refl)
 others-leave sh thread e kinds.SetPrio other = absurd (other.setprio refl)
 others-leave sh thread e kind other = record { shared = untouched sh (touched kind (record e { kind = kind })); thread = refl }
@@ -159,3 +163,7 @@ end-left sh thread e is = untouched sh (touched kinds.WalkEnd e) ∙ kind-left s
 
 pub restart-left : (sh : Shared) (thread : ThreadPart) (e : Event) → e.kind ≡ kinds.Restart → sh ≡ shared_after sh thread e
 restart-left sh thread e is = untouched sh (touched kinds.Restart e) ∙ kind-left sh thread e kinds.Restart is
+
+-- an answer of its own thread leaves all as it was
+pub own-left : (sh : Shared) (thread : ThreadPart) (e : Event) → e.kind ≡ kinds.Own → sh ≡ shared_after sh thread e
+own-left sh thread e is = untouched sh (touched kinds.Own e) ∙ kind-left sh thread e kinds.Own is

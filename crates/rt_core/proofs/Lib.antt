@@ -5,6 +5,7 @@ pub mod Leaving
 pub mod LinkedParts
 pub mod Boosts
 pub mod Choosing
+pub mod Counting
 pub mod Applying
 pub mod EntryWellFormed
 pub mod Notes

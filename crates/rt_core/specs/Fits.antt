@@ -1,6 +1,7 @@
 -- When an event fits the shared parts and its thread.
 use Rattle.std.specs.Prelude.{◌≡◌, ◌<◌, ◌≤◌, ◌^◌, length, None, IfSome, IsSome}
 use Rattle.rt_base.specs.declared.limits.TheConstants.{MAX_PRIO}
+use Rattle.rt_base.specs.declared.reply.Reply.{Reply}
 use Rattle.rt_model.specs.declared.event.Event.{Event}
 use Rattle.rt_model.specs.declared.event_kind.EventKind.{EventKind}
 use Rattle.rt_model.specs.declared.event_kind.EventKind.TheVariants as kinds
@@ -13,13 +14,18 @@ use Rattle.rt_model.specs.Rules.{touched}
 use Rattle.rt_model.specs.StateAfter.{effect_in, shared_after}
 use Rattle.rt_walk.specs.Link.{awaited}
 use Rattle.rt_parts.specs.Links.{IsQueuedAt, HasRoom}
+use Rattle.rt_parts.specs.Thread.{CanCount}
 
 -- ---- by the kind
 
--- an event is on a lock, but where a walk ends or begins anew, a task is woken, or a priority is set
+-- an event is on a lock, but where a walk ends or begins anew, a thread answers at once, a state is set or left, a task is woken, or
+-- a priority is set
 abbrev pub NamesLock : EventKind → Event → Type 0
 NamesLock kinds.WalkEnd e = Unit {0}
 NamesLock kinds.Restart e = Unit {0}
+NamesLock kinds.Own e = Unit {0}
+NamesLock kinds.State e = Unit {0}
+NamesLock kinds.Sched e = Unit {0}
 NamesLock kinds.Wake e = Unit {0}
 NamesLock kinds.SetPrio e = Unit {0}
 NamesLock _ e = IsSome e.lock
@@ -68,6 +74,7 @@ pub record Fits (e : Event) (sh : Shared) (thread : ThreadPart) : Type 0 where
   pub woken : IfSome e.woken (λ t. t.0 < length sh.tasks)
   pub kinds : length thread.kinds ≡ length sh.locks
   pub call : IfSome e.reply (λ _. IsSome (call_of thread))
+  pub count : IfSome e.reply (λ (answer : Reply). CanCount (call_of thread) answer thread.migration)
   pub queue : CanQueue e.kind e (lock_at sh e.lock)
   pub link : CanLink e.kind e sh thread
   pub first : NamesOwner e.kind e sh

@@ -1,6 +1,6 @@
 // What an event leaves of the shared parts and of its own thread.
 ghost use Rattle.std.specs.Prelude.{◌≡◌, ◌≢◌, ◌<◌, length, Some};
-ghost use Rattle.rt_model.specs.declared.event_kind.EventKind.TheVariants.{WalkEnd, Restart, Wake, SetPrio};
+ghost use Rattle.rt_model.specs.declared.event_kind.EventKind.TheVariants.{WalkEnd, Restart, Own, State, Sched, Wake, SetPrio};
 ghost use Rattle.rt_model.specs.StateAfter.{shared_after, thread_after};
 ghost use Rattle.rt_core.specs.Fits.{Fits, thread_moved};
 
@@ -35,6 +35,9 @@ fn make_unanswered(shared: &mut Shared, thread: &mut Thread, e: &Event)
     match e.kind {
         EventKind::WalkEnd => thread.end_walk(),
         EventKind::Restart => walk::restart(thread, e),
+        EventKind::Own => {}
+        EventKind::State => wakeups::state(shared, e),
+        EventKind::Sched => wakeups::sched(shared, e),
         EventKind::Wake => wakeups::wake(shared, e),
         EventKind::SetPrio => wakeups::setprio(shared, thread, e),
         _ => {
@@ -50,6 +53,9 @@ fn make_on_lock(shared: &mut Shared, thread: &mut Thread, e: &Event, l: LockId)
     requires fits { Fits e.now shared.old thread.old }
     requires not_end { e.now.kind ≢ WalkEnd }
     requires not_restart { e.now.kind ≢ Restart }
+    requires not_own { e.now.kind ≢ Own }
+    requires not_state { e.now.kind ≢ State }
+    requires not_sched { e.now.kind ≢ Sched }
     requires not_wake { e.now.kind ≢ Wake }
     requires not_set { e.now.kind ≢ SetPrio }
     requires named { e.now.lock ≡ Some l }
@@ -68,7 +74,7 @@ fn make_on_lock(shared: &mut Shared, thread: &mut Thread, e: &Event, l: LockId)
         EventKind::Cycle => walk::cycle(shared, thread, e, l),
         EventKind::Free => release::free(shared, l),
         EventKind::Give => release::give(shared, e, l, thread.kind_of(l)),
-        // `busy` and `own` leave nothing but their answers, and the other kinds don't come yet.
+        // A `busy` leaves nothing but its answer, and the other kinds don't come yet.
         _ => {}
     }
 }

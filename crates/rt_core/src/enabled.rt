@@ -98,32 +98,39 @@ fn can_move(thread: &Thread, task: &TaskCell) -> bool
         return false;
     };
     match thread.phase() {
-        Phase::Start => can_start(thread, &call),
+        Phase::Start => can_start(thread, task, &call),
         phase => can_go_on(phase, thread, task, &call),
     }
 }
 
 // Whether a call has a first event.
-fn can_start(thread: &Thread, call: &Call) -> bool
+fn can_start(thread: &Thread, task: &TaskCell, call: &Call) -> bool
     requires { IsServed MAX_TASKS (length thread.now.kinds) call.now }
-    ensures { (task : TaskPart) → result ≡ can_in Start thread.now task call.now }
+    ensures { result ≡ can_in Start thread.now task.now call.now }
 {
-    has_first(call) || own_answer(thread, call).is_some()
+    has_first(call, task) || own_answer(thread, call).is_some()
 }
 
-// Whether a call that isn't answered by its thread alone has a first event.
-fn has_first(call: &Call) -> bool
-    ensures { result ≡ has_first call.now }
+// Whether a call that isn't answered by its thread alone has a first event: a `schedule` has none while its
+// task sleeps.
+fn has_first(call: &Call, task: &TaskCell) -> bool
+    ensures { result ≡ has_first call.now task.now }
 {
-    matches!(
-        call,
+    match call {
         Call::Lock(_)
-            | Call::LockInt(_)
-            | Call::TryLock(_)
-            | Call::Unlock(_)
-            | Call::Signal(_)
-            | Call::SetPrio(..)
-    )
+        | Call::LockInt(_)
+        | Call::TryLock(_)
+        | Call::Unlock(_)
+        | Call::Spin(_)
+        | Call::TrySpin(_)
+        | Call::Unspin(_)
+        | Call::State(_)
+        | Call::Wake(_)
+        | Call::Signal(_)
+        | Call::SetPrio(..) => true,
+        Call::Schedule => task.passes(),
+        _ => false,
+    }
 }
 
 // Whether a call goes on that has made its first event.

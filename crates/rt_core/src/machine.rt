@@ -12,19 +12,21 @@ ghost use Rattle.rt_model.specs.Run.{is_done, is_stuck, is_enabled, lowest};
 ghost use Rattle.rt_model.specs.Order.{in_walk, is_walking};
 ghost use Rattle.rt_model.specs.laws.Shape.{IsOf, IsWithin, SameSize};
 ghost use Rattle.rt_model.specs.laws.Lawful.{IsLawful};
+ghost use Rattle.rt_model.specs.laws.States.{waits_spinning};
+ghost use Rattle.rt_model.specs.laws.Wakeups.{flat_state};
 ghost use Rattle.rt_model.specs.laws.Local.{AgreeOn};
 ghost use Rattle.rt_events.specs.Entry.{entry};
 ghost use Rattle.rt_events.specs.WellFormed.{IsWellFormed};
-ghost use Rattle.rt_core.specs.Report.{IsNoteWithin, note_of, call_note, blocked_note, readers_note, report_line_of, task_report, lock_report};
+ghost use Rattle.rt_core.specs.Report.{IsNoteWithin, note_of, call_note, report_line_of, task_report, lock_report};
 ghost use Rattle.rt_core.specs.Core.{Made};
 
 use crate::effect::make;
 use crate::enabled::Enabled;
-use crate::note::Note;
+use crate::note::{Note, blocked_note, readers_note};
 use crate::playable::is_playable;
 use crate::report::{write_lock_line, write_task_line};
 use rt_base::limits::{LINE_LIMIT, MAX_TASKS};
-use rt_base::{Call, LockId, NoMemory, Prio, TaskId};
+use rt_base::{Call, LockId, NoMemory, Prio, TaskId, TaskState};
 use rt_choice::{confirmed_event, event_of, next_of};
 use rt_locks::LockCell;
 use rt_model::{Event, Phase, Row};
@@ -59,8 +61,9 @@ impl Model for Core {
 }
 
 impl Core {
-    /// Whether the machine plays a script, so far one whose locks are all mutexes, and whose tasks take and
-    /// release them, send signals and set priorities.
+    /// Whether the machine plays a script, so far one whose locks are mutexes and spinlocks, and whose tasks
+    /// take and release them, set states and give the processor up, wake and signal each other, and set
+    /// priorities.
     pub fn can(script: &Script) -> bool
         ensures { IsTrue result ↔ IsPlayable script.now }
     {
@@ -115,6 +118,20 @@ impl Core {
         ensures { result.now ≡ task_part self.now.state t }
     {
         self.shared.task(t)
+    }
+
+    /// The state of a task as it would be if spinlocks didn't put it to sleep: the saved one while it waits for
+    /// a spinning kind, else its state.
+    pub fn flat_state(&self, t: TaskId) -> TaskState
+        requires { t.0 < length self.now.state.threads }
+        ensures { result ≡ flat_state (thread_part self.now.state t) (task_part self.now.state t) }
+    {
+        let task = self.cell(t);
+        if waits_spinning(self.thread(t), task) {
+            task.saved()
+        } else {
+            task.state()
+        }
     }
 
     // A task's thread.
@@ -312,22 +329,13 @@ impl Core {
     }
 }
 
-// Where a queued task stands.
-fn blocked_note(place: Option<(LockId, Prio)>) -> Note
-    ensures { result ≡ blocked_note place }
+// Whether the task of this thread waits for a lock of a spinning kind.
+fn waits_spinning(thread: &Thread, task: &TaskCell) -> bool
+    requires { IfSome task.now.blocked (λ at. at.0.0 < length thread.now.kinds) }
+    ensures { result ≡ waits_spinning thread.now task.now }
 {
-    match place {
-        Some((lock, key)) => Note::Lock(lock, key),
-        None => Note::Wake,
-    }
-}
-
-// Where a writer that waits for readers stands.
-fn readers_note(lock: Option<LockId>) -> Note
-    ensures { result ≡ readers_note lock }
-{
-    match lock {
-        Some(lock) => Note::Readers(lock),
-        None => Note::Wake,
+    match task.blocked() {
+        Some(l) => thread.kind_of(l).spins(),
+        None => false,
     }
 }

@@ -341,7 +341,7 @@ fn reports(
     Ok(())
 }
 
-// Which scripts the machine plays: mutexes that are taken and released, signals, and priorities that are set.
+// Which scripts the machine plays: mutexes and spinlocks, states that are set, sleeps, wakeups, signals, and priorities.
 #[test]
 fn scripts_that_can_be_played(rt: HostRuntime) -> Result<(), Fail> {
     for (lines, can) in [
@@ -351,7 +351,9 @@ fn scripts_that_can_be_played(rt: HostRuntime) -> Result<(), Fail> {
             "task a 5 0\nlock m mutex\ncall a lock m\ncall a unlock m\n",
             true,
         ),
-        ("lock s spin\n", false),
+        ("lock s spin\n", true),
+        ("lock x rwlock\n", false),
+        ("lock x rwsem\n", false),
         ("lock l local\n", false),
         ("lock m mutex\nlock n mutex\n", true),
         (
@@ -364,13 +366,18 @@ fn scripts_that_can_be_played(rt: HostRuntime) -> Result<(), Fail> {
         ),
         (
             "task a 5 0\nlock m mutex\ncall a lockint m\ncall a state S\n",
-            false,
+            true,
+        ),
+        (
+            "task a 5 0\nlock s spin\ncall a spin s\ncall a tryspin s\ncall a unspin s\n",
+            true,
         ),
         (
             "task a 5 0\ntask b 5 0\ncall b signal a\ncall b wake a\n",
-            false,
+            true,
         ),
-        ("task a 5 0\ncall a schedule\n", false),
+        ("task a 5 0\ncall a schedule\n", true),
+        ("task a 5 0\ncall a schedule\ncall a move 0\n", false),
     ] {
         let text = format!(in rt.alloc(); "rtscript 1\n{lines}go\n")?;
         assert!(rt; text.len() < 1000);

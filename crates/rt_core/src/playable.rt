@@ -1,13 +1,13 @@
 // Which scripts the machine plays.
 ghost use Rattle.std.specs.Prelude.{◌≡◌, ◌↔◌, All, IsTrue};
 ghost use Rattle.rt_base.specs.Script.{TaskLine, LockLine};
-ghost use Rattle.rt_model.specs.Stage.{IsPlayed, IsPlayable};
-ghost use Rattle.rt_base.specs.declared.kind.Kind.TheVariants.{Mutex};
+ghost use Rattle.rt_model.specs.Stage.{IsPlayed, IsPlayedKind, IsPlayable};
 
 use rt_base::{Call, Kind, LockId, TaskId};
 use rt_script::Script;
 
-/// Whether a call takes or releases a mutex, sends a signal, or sets a priority.
+/// Whether a call takes or releases a mutex or a spinlock, sets a state or gives the processor up, wakes or
+/// signals a task, or sets a priority.
 fn is_played(call: &Call) -> bool
     ensures { IsTrue result ↔ IsPlayed call.now }
 {
@@ -17,6 +17,12 @@ fn is_played(call: &Call) -> bool
             | Call::LockInt(_)
             | Call::TryLock(_)
             | Call::Unlock(_)
+            | Call::Spin(_)
+            | Call::TrySpin(_)
+            | Call::Unspin(_)
+            | Call::State(_)
+            | Call::Schedule
+            | Call::Wake(_)
             | Call::Signal(_)
             | Call::SetPrio(..)
     )
@@ -34,26 +40,26 @@ fn are_played(calls: &[Call]) -> bool
     true
 }
 
-/// Whether it is the kind of mutexes.
-fn is_mutex(kind: Kind) -> bool
-    ensures { IsTrue result ↔ (kind ≡ Mutex) }
+/// Whether it is the kind of mutexes or of spinlocks.
+fn is_played_kind(kind: Kind) -> bool
+    ensures { IsTrue result ↔ IsPlayedKind kind }
 {
-    kind == Kind::Mutex
+    matches!(kind, Kind::Mutex | Kind::Spin)
 }
 
-/// Whether each lock of the script is a mutex.
-fn has_mutexes(script: &Script) -> bool
-    ensures { IsTrue result ↔ All (λ (line : LockLine). line.kind ≡ Mutex) script.now.locks }
+/// Whether each lock of the script is a mutex or a spinlock.
+fn locks_played(script: &Script) -> bool
+    ensures { IsTrue result ↔ All (λ (line : LockLine). IsPlayedKind line.kind) script.now.locks }
 {
     for l in 0..script.locks() {
-        if !is_mutex(script.kind(LockId(l))) {
+        if !is_played_kind(script.kind(LockId(l))) {
             return false;
         }
     }
     true
 }
 
-/// Whether its tasks only take and release mutexes, send signals, and set priorities.
+/// Whether its tasks make such calls alone.
 fn calls_played(script: &Script) -> bool
     ensures { IsTrue result ↔ All (λ (line : TaskLine). All IsPlayed line.calls) script.now.tasks }
 {
@@ -65,10 +71,10 @@ fn calls_played(script: &Script) -> bool
     true
 }
 
-/// Whether the script's locks are all mutexes, and its tasks take and release them, send signals and set
-/// priorities.
+/// Whether the script's locks are mutexes and spinlocks, and its tasks take and release them, set states and
+/// give the processor up, wake and signal each other, and set priorities.
 pub fn is_playable(script: &Script) -> bool
     ensures { IsTrue result ↔ IsPlayable script.now }
 {
-    has_mutexes(script) && calls_played(script)
+    locks_played(script) && calls_played(script)
 }

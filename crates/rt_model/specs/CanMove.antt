@@ -14,7 +14,7 @@ use Rattle.rt_model.specs.steps.Task.{passes}
 use Rattle.rt_model.specs.events.Own.{own_answer}
 use Rattle.rt_model.specs.events.Wait.{is_awake}
 
--- a call that isn't answered by its thread alone has a first event, but where it gives the processor up and its task sleeps
+-- a call that isn't answered by its thread alone has a first event, but where it gives the processor up and its task may not go on
 abbrev pub has_first : Call → TaskPart → Bool
 has_first (calls.Lock l) task = true
 has_first (calls.LockInt l) task = true

@@ -39,7 +39,7 @@ IsPlayedKind kinds.Mutex = Unit {0}
 IsPlayedKind kinds.Spin = Unit {0}
 IsPlayedKind _ = ⊥
 
--- the script's locks are mutexes and spinlocks, and each call is one of these
+-- the script's locks are mutexes and spinlocks, and each call is played
 pub record IsPlayable (script : Script) : Type 0 where
   pub locks : All (λ (l : LockLine). IsPlayedKind l.kind) script.locks
   pub calls : All (λ (t : TaskLine). All IsPlayed t.calls) script.tasks
@@ -62,7 +62,7 @@ IsServed tasks locks (Signal t) = t.0 < tasks
 IsServed tasks locks (SetPrio t prio) = (t.0 < tasks) × (prio ≤ MAX_PRIO)
 IsServed tasks locks _ = ⊥
 
--- the call is one that its lock's kind has
+-- the call is one that its lock's kind has; so far of mutexes and spinlocks
 abbrev pub IsForKind : List Kind → Call → Type 0
 IsForKind all (Lock l) = slice_get all l.0 ≡ Some kinds.Mutex
 IsForKind all (LockInt l) = slice_get all l.0 ≡ Some kinds.Mutex
@@ -73,7 +73,7 @@ IsForKind all (TrySpin l) = slice_get all l.0 ≡ Some kinds.Spin
 IsForKind all (Unspin l) = slice_get all l.0 ≡ Some kinds.Spin
 IsForKind all _ = Unit {0}
 
--- each call is served, and is one that its lock's kind has
+-- each call is served, and is for its lock's kind
 pub record IsStaged (s : State) : Type 0 where
   pub served : All (λ (thread : ThreadPart). All (IsServed (length s.threads) (length s.locks)) thread.calls) s.threads
   pub fit : All (λ (thread : ThreadPart). All (IsForKind thread.kinds) thread.calls) s.threads

@@ -8,13 +8,14 @@ ghost use Rattle.rt_model.specs.Stage.{IsServed};
 ghost use Rattle.rt_model.specs.Choice.{called_lock};
 ghost use Rattle.rt_model.specs.events.Own.{is_held, spinning_hold, spinning_holds};
 ghost use Rattle.rt_model.specs.steps.Task.{rest_of, sleep_of};
-ghost use Rattle.rt_model.specs.steps.Thread.{answered_with, holds_after, with_hold};
+ghost use Rattle.rt_model.specs.steps.Thread.{answered_with, holds_after, migration_after, with_hold};
 ghost use Rattle.rt_model.specs.Run.{is_at_end};
 ghost use Rattle.rt_model.specs.Order.{in_walk};
 ghost use Rattle.rt_model.specs.steps.Chain.{followed, goes_on, phase_of_walk};
 ghost use Rattle.rt_model.specs.events.Walk.{phase_after_link, phase_after_end};
 ghost use Rattle.rt_walk.specs.Next.{found};
 ghost use Rattle.rt_parts.specs.Links.{HasRoom, walk_to, phase_told};
+ghost use Rattle.rt_parts.specs.Thread.{CanCount};
 
 use rt_base::limits::{MAX_CALLS, MAX_LOCKS, MAX_TASKS};
 use rt_base::{Call, Cpu, Kind, LockId, NoMemory, Path, Reply, TaskId, TaskState};
@@ -150,7 +151,13 @@ impl Thread {
         ensures within { IfSome result (λ l. l.0 < length self.now.kinds) }
     {
         match call {
-            Call::Lock(l) | Call::LockInt(l) | Call::TryLock(l) | Call::Unlock(l) => Some(*l),
+            Call::Lock(l)
+            | Call::LockInt(l)
+            | Call::TryLock(l)
+            | Call::Unlock(l)
+            | Call::Spin(l)
+            | Call::TrySpin(l)
+            | Call::Unspin(l) => Some(*l),
             _ => None,
         }
     }
@@ -231,25 +238,45 @@ impl Thread {
 
     /// The call that it is at has this answer, and it goes to the start of the next one.
     pub fn answer(&mut self, reply: Reply)
-        requires { IsSome (call_of self.old) }
+        requires call { IsSome (call_of self.old) }
+        requires count { CanCount (call_of self.old) reply self.old.migration }
         ensures { self.new ≡ answered_with self.old (Some reply) }
     {
         let Some(call) = self.call() else { return };
-        self.note_answer(call, reply);
+        self.note_answer(&call, reply);
+        self.count_answer(&call, reply);
         self.answered += 1;
         self.phase = Phase::Start;
     }
 
     // Holds what an acquire got, and no longer what a release gave back.
-    fn note_answer(&mut self, call: Call, reply: Reply)
-        requires { IsServed MAX_TASKS (length self.old.kinds) call }
-        ensures { self.new ≡ record self.old { holds = holds_after self.old (Some call) reply } }
+    fn note_answer(&mut self, call: &Call, reply: Reply)
+        requires { IsServed MAX_TASKS (length self.old.kinds) call.now }
+        ensures { self.new ≡ record self.old { holds = holds_after self.old (Some call.now) reply } }
     {
         match (call, reply) {
-            (Call::Lock(l) | Call::LockInt(l) | Call::TryLock(l), Reply::Got) => {
-                self.set_owns(l, true)
-            }
-            (Call::Unlock(l), Reply::Done) => self.set_owns(l, false),
+            (
+                Call::Lock(l)
+                | Call::LockInt(l)
+                | Call::TryLock(l)
+                | Call::Spin(l)
+                | Call::TrySpin(l),
+                Reply::Got,
+            ) => self.set_owns(*l, true),
+            (Call::Unlock(l) | Call::Unspin(l), Reply::Done) => self.set_owns(*l, false),
+            _ => {}
+        }
+    }
+
+    // Counts a spinlock that it got, `migrate_disable` in `rt_spin_lock`, and no longer one that it gave
+    // back, `migrate_enable` in `rt_spin_unlock`.
+    fn count_answer(&mut self, call: &Call, reply: Reply)
+        requires { CanCount (Some call.now) reply self.old.migration }
+        ensures { self.new ≡ record self.old { migration = migration_after self.old.migration (Some call.now) reply } }
+    {
+        match (call, reply) {
+            (Call::Spin(_) | Call::TrySpin(_), Reply::Got) => self.migration += 1,
+            (Call::Unspin(_), Reply::Done) => self.migration -= 1,
             _ => {}
         }
     }

@@ -1,6 +1,7 @@
 -- A next event keeps the migration law.
-use Rattle.std.proofs.Common.{◌≡◌, inl, inr, ℕ, ◌+◌, ◌-◌, ◌<◌, Bool, true, false, cond, length, refl, sym, ap, ◌∙◌, subst, arith, Option, Some, None, All, IfSome}
+use Rattle.std.proofs.Common.{◌≡◌, inl, inr, ℕ, ◌+◌, ◌-◌, ◌<◌, ◌≤◌, Bool, true, false, cond, length, refl, sym, ap, ◌∙◌, subst, arith, Option, Some, None, All, IfSome}
 use Rattle.std.specs.Prelude.{slice_get}
+use Rattle.std.proofs.lemmas.Bool.{cond_both}
 use Rattle.std.proofs.lemmas.Option.{slice_get_within}
 use Rattle.rt_base.specs.declared.call.Call.{Call}
 use Rattle.rt_base.specs.declared.call.Call.TheVariants as calls
@@ -11,6 +12,7 @@ use Rattle.rt_base.specs.declared.kind.Kind.TheVariants.{Mutex, Spin}
 use Rattle.rt_base.specs.declared.reply.Reply.{Reply}
 use Rattle.rt_base.specs.declared.reply.Reply.TheVariants as replies
 use Rattle.rt_model.specs.declared.event.Event.{Event}
+use Rattle.rt_model.specs.declared.hold.Hold.{Hold}
 use Rattle.rt_model.specs.declared.phase.Phase.{Phase}
 use Rattle.rt_model.specs.declared.phase.Phase.TheVariants as phases
 use Rattle.rt_model.specs.declared.phase.Route.{Route}
@@ -27,7 +29,7 @@ use Rattle.rt_model.specs.Stage.{IsForKind, IsStaged, IsToCome}
 use Rattle.rt_model.specs.laws.Lawful.{IsLawful}
 use Rattle.rt_model.specs.laws.Migration.{pins, pinned, MigrationLaw}
 use Rattle.rt_model.proofs.Lists.{All-at, All-default}
-use Rattle.rt_model.proofs.Holds.{count-set, read-some}
+use Rattle.rt_model.proofs.Holds.{count-set, count-most, read-some}
 use Rattle.rt_model.proofs.Calling.{at_call, IsIn, Asks, waits-holds, Tries, tries-holds, Returns, releases-holds}
 use Rattle.rt_model.proofs.Numbers.{nobodys}
 use Rattle.rt_model.proofs.NextEvents.{IsNext, by_own, by_acquire, by_wait, by_release, by_walk, by_confirm, by_wakeup, by_setprio, task-IsNext}
@@ -44,8 +46,16 @@ use Rattle.rt_model.proofs.laws.Owners.{held_never_got, never_done}
 
 -- ---- an answer
 
+-- what holds count is no more than the number of locks
+pub few-pinned : (thread : ThreadPart) → pinned thread ≤ length thread.kinds
+few-pinned thread = count-most pins one-most thread.kinds thread.holds
+  where
+    one-most : (kind : Kind) (hold : Hold) → pins kind hold ≤ 1
+    one-most Spin hold = cond_both hold.owns 1 0 (λ (n : ℕ). n ≤ 1) (λ is. omega arith) (λ is. omega arith)
+    one-most _ hold = omega arith
+
 -- a spinlock that a thread gets it didn't hold, and one that it has released it held
-abbrev Counted : ThreadPart → Call → Reply → Type 0
+abbrev pub Counted : ThreadPart → Call → Reply → Type 0
 Counted thread (calls.Spin l) replies.Got = (hold_of thread l).owns ≡ false
 Counted thread (calls.TrySpin l) replies.Got = (hold_of thread l).owns ≡ false
 Counted thread (calls.Unspin l) replies.Done = (hold_of thread l).owns ≡ true
@@ -73,6 +83,12 @@ module _ (thread : ThreadPart) (long : length thread.holds ≡ length thread.kin
       let one : pins Spin (hold_of thread l) ≡ 1 = ap (λ (b : Bool). cond b 1 0) held in
       omega (arith, pinned-set l Spin false is, one, law)
 
+  -- it counts one as long as it is held
+  pub spin-counts : (l : LockId) → slice_get thread.kinds l.0 ≡ Some Spin → (hold_of thread l).owns ≡ true → thread.migration ≡ pinned thread → 0 < thread.migration
+  spin-counts l is held law =
+      let one : pins Spin (hold_of thread l) ≡ 1 = ap (λ (b : Bool). cond b 1 0) held in
+      omega (arith, pinned-set l Spin false is, one, law)
+
   -- so after any answer the count is right
   answer-counts : (call : Call) (answer : Reply) → IsForKind thread.kinds call → Counted thread call answer → thread.migration ≡ pinned thread
       → migration_after thread.migration (Some call) answer ≡ count_holds pins thread.kinds (holds_after thread (Some call) answer)
@@ -95,14 +111,14 @@ replied thread call (Some answer) long calling fits counted law =
 -- ---- what a state says of a thread
 
 -- a call of a state's thread is one that its lock's kind has
-call-fits : (s : State) (t : TaskId) (call : Call) → IsStaged s → call_of (thread_part s t) ≡ Some call → IsForKind (thread_part s t).kinds call
+pub call-fits : (s : State) (t : TaskId) (call : Call) → IsStaged s → call_of (thread_part s t) ≡ Some call → IsForKind (thread_part s t).kinds call
 call-fits s t call staged at =
     let here = at_call s t call at in
     let all = All-at (λ (thread : ThreadPart). All (IsForKind thread.kinds) thread.calls) s.threads t.0 (thread_part s t) staged.fit here.0 in
     All-at (IsForKind (thread_part s t).kinds) (thread_part s t).calls (thread_part s t).answered call all at
 
 -- a thread holds, or doesn't, each lock that it knows
-holds-long : (s : State) (made : ℕ) (t : TaskId) → IsLawful s made → t.0 < length s.threads → length (thread_part s t).holds ≡ length (thread_part s t).kinds
+pub holds-long : (s : State) (made : ℕ) (t : TaskId) → IsLawful s made → t.0 < length s.threads → length (thread_part s t).holds ≡ length (thread_part s t).kinds
 holds-long s made t lawful there =
     All-default (HoldsFit (length s.locks)) s.threads t.0 _ lawful.shape.holds there
     ∙ sym (All-default (λ (thread : ThreadPart). length thread.kinds ≡ length s.locks) s.threads t.0 _ lawful.shape.kinds there)
@@ -110,10 +126,10 @@ holds-long s made t lawful there =
 -- ---- what the events answer
 
 -- the call that a task is at, and what it is answered
-record IsCounted (s : State) (t : TaskId) (reply : Option Reply) : Type 0 where
-  call : Call
-  calling : call_of (thread_part s t) ≡ Some call
-  counted : IfSome reply (Counted (thread_part s t) call)
+pub record IsCounted (s : State) (t : TaskId) (reply : Option Reply) : Type 0 where
+  pub call : Call
+  pub calling : call_of (thread_part s t) ≡ Some call
+  pub counted : IfSome reply (Counted (thread_part s t) call)
 
 -- what a thread answers at once changes no hold
 own-counted : (thread : ThreadPart) (call : Call) (answer : Reply) → own_answer thread call ≡ Some answer → Counted thread call answer
@@ -164,7 +180,7 @@ module _ (s : State) (t : TaskId) where
   told : (e x : Event) → e ≡ x → IsCounted s t x.reply → IsCounted s t e.reply
   told e x is counted = subst (λ (y : Event). IsCounted s t y.reply) (sym is) counted
 
-  its_answer : (made : ℕ) (e : Event) → IsLawful s made → IsNext s t e → IsCounted s t e.reply
+  pub its_answer : (made : ℕ) (e : Event) → IsLawful s made → IsNext s t e → IsCounted s t e.reply
   its_answer made e lawful next = by_kind next
     where
       -- nobody holds a lock that nobody owns

@@ -31,6 +31,7 @@ abbrev pub count_answer : ℕ → Option Reply → ℕ
 count_answer n None = n
 count_answer n (Some answer) = n + 1
 
+-- it is queued from a `wait` on, until it takes the lock or leaves the queue
 abbrev pub queued_after : EventKind → Bool → Bool
 queued_after kinds.Wait queued = true
 queued_after kinds.Take queued = false
@@ -78,7 +79,8 @@ abbrev pub is_ordinary : Script → Option LockId → Bool
 is_ordinary script None = false
 is_ordinary script (Some l) = not (spins (lock_line script l).kind)
 
--- a lock of a kind that doesn't spin puts its own task to sleep in this call, and lets a queued one run again
+-- a lock of a kind that doesn't spin puts its own task to sleep in this call, and lets a queued one run again; so far the owner parts
+-- of locks alone
 abbrev pub own_at_lock : EventKind → Option Call → Bool → Flat → Flat
 own_at_lock kinds.Wait call queued flat = record flat { state = sleep_of call }
 own_at_lock kinds.Again call queued flat = record flat { state = sleep_of call }
@@ -108,13 +110,17 @@ abbrev pub is_wakeup : EventKind → Bool
 is_wakeup kinds.Wake = true
 is_wakeup kind = false
 
+-- a slot of the event names the task
+abbrev pub is_named : Option TaskId → TaskId → Bool
+is_named named t = owned_by named t
+
 -- what the event makes of the task's two fields: as the one that acts, as the one that a lock wakeup goes to, and as the target of a
 -- wakeup or a signal
 abbrev pub flat_after : Script → TaskId → Place → Event → Flat → Flat
 flat_after script t place e flat =
     let own = if nat_eq e.task.0 t.0 then flat_own script t place e flat else flat in
-    let lock_woken = if owned_by e.woken t then flat_lock_woken script e own else own in
-    if is_wakeup e.kind && owned_by e.other t then flat_woken_by e.value lock_woken else lock_woken
+    let lock_woken = if is_named e.woken t then flat_lock_woken script e own else own in
+    if is_wakeup e.kind && is_named e.other t then flat_woken_by e.value lock_woken else lock_woken
 
 -- ---- along the events
 
@@ -123,7 +129,10 @@ pub record Followed : Type 0 where
   pub flat : Flat
 
 abbrev pub follow_event : Script → TaskId → Followed → Event → Followed
-follow_event script t at e = record { place = if nat_eq e.task.0 t.0 then place_after e at.place else at.place; flat = flat_after script t at.place e at.flat }
+follow_event script t at e = record {
+  place = if nat_eq e.task.0 t.0 then place_after e at.place else at.place;
+  flat = flat_after script t at.place e at.flat;
+}
 
 abbrev pub followed_of : Script → TaskId → List Event → Followed
 followed_of script t events = fold (follow_event script t) (record { place = first_place; flat = first_flat }) events

@@ -12,7 +12,7 @@ abbrev pub spins_at : ThreadPart → Option (LockId × ℕ) → Bool
 spins_at thread None = false
 spins_at thread (Some at) = spins (kind_of thread at.0)
 
--- the task of this thread waits for a spinning kind: it is blocked on a lock of one
+-- the task of this thread waits for a spinning kind: it is blocked on a lock of one; so far there is no other wait
 abbrev pub waits_spinning : ThreadPart → TaskPart → Bool
 waits_spinning thread task = spins_at thread task.blocked
 

@@ -53,6 +53,14 @@ impl Shared {
         self.tasks[t.0 as usize].rest_again(rest);
     }
 
+    /// A task goes into a state that it sets itself.
+    pub fn set_state(&mut self, t: TaskId, state: TaskState)
+        requires { t.0 < length self.old.tasks }
+        ensures { self.new ≡ record self.old { tasks = update self.old.tasks t.0 (λ task. record task { state = state }) } }
+    {
+        self.tasks[t.0 as usize].set_state(state);
+    }
+
     /// A task waits for no lock any more, where it did.
     pub fn leave_queue(&mut self, t: TaskId, spins: bool)
         requires { t.0 < length self.old.tasks }

@@ -77,6 +77,8 @@ returns-in_default c =
       cycle = other.not-Cycle;
       walkend = c.requires.not_end;
       restart = c.requires.not_restart;
+      state = c.requires.not_state;
+      sched = c.requires.not_sched;
       wake = c.requires.not_wake;
       setprio = c.requires.not_set;
     }) in

@@ -4,7 +4,7 @@ use Rattle.rt_model.specs.declared.event_kind.EventKind.TheVariants as kinds
 use Rattle.rt_model.specs.declared.phase.Route.TheVariants.{Short}
 use Rattle.rt_model.specs.State.{task_at}
 use Rattle.rt_model.specs.steps.Chain.{goes_on, phase_of_walk}
-use Rattle.rt_core.proofs.Leaving.{kind-left, told-moved, end-left, restart-left}
+use Rattle.rt_core.proofs.Leaving.{kind-left, told-moved, end-left, restart-left, own-left}
 use Rattle.rt_core.proofs.effect.make_unanswered.Goals as goal
 
 pub returns-in-WalkEnd-clause-shared : goal.returns-in-WalkEnd-clause-shared
@@ -12,6 +12,15 @@ returns-in-WalkEnd-clause-shared c = end-left c.args.shared.now c.args.thread.no
 
 pub returns-in-Restart-clause-shared : goal.returns-in-Restart-clause-shared
 returns-in-Restart-clause-shared c = restart-left c.args.shared.now c.args.thread.now c.args.e.now c.in-Restart.is
+
+pub returns-in-Own-clause-shared : goal.returns-in-Own-clause-shared
+returns-in-Own-clause-shared c = own-left c.args.shared.now c.args.thread.now c.args.e.now c.in-Own.is
+
+pub returns-in-State-clause-shared : goal.returns-in-State-clause-shared
+returns-in-State-clause-shared c = c.state.ensures ∙ kind-left c.args.shared.now c.args.thread.now c.args.e.now kinds.State c.in-State.is
+
+pub returns-in-Sched-clause-shared : goal.returns-in-Sched-clause-shared
+returns-in-Sched-clause-shared c = c.sched.ensures ∙ kind-left c.args.shared.now c.args.thread.now c.args.e.now kinds.Sched c.in-Sched.is
 
 pub returns-in-Wake-clause-shared : goal.returns-in-Wake-clause-shared
 returns-in-Wake-clause-shared c = c.wake.ensures ∙ kind-left c.args.shared.now c.args.thread.now c.args.e.now kinds.Wake c.in-Wake.is

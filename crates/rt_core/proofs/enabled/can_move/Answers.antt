@@ -6,5 +6,5 @@ pub returns-in-Start : goal.returns-in-Start
 returns-in-Start c =
     let thread = c.args.thread.now in
     let task = c.args.task.now in
-    c.can_start.ensures task
+    c.can_start.ensures
     ∙ (ap (λ phase. can_in phase thread task c.in-Some.call) (sym c.in-Start.is ∙ c.phase.ensures) ∙ ap (can_at thread task) (sym c.in-Some.is ∙ c.call.ensures.call))

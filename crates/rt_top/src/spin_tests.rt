@@ -617,7 +617,7 @@ fn spinlocks_in_mutexes_and_in_each_other(rt: HostRuntime) -> Result<(), Fail> {
               lock m - 0\n",
             0,
         ),
-        // two spinlocks, and the owner of the outer one is waked, not the one that waits inside
+        // two spinlocks: the owner of the outer one, who waits inside, is woken, not who waits for the outer one
         (
             b"rtscript 1\ntask a 50 0\ntask b 50 0\ntask c 50 0\nlock s spin\nlock t spin\n\
               call a spin s\ncall a unspin s\n\

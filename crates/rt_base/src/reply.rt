@@ -11,13 +11,14 @@ pub enum Reply {
     Interrupted,
     /// A release of a lock that the caller doesn't hold.
     NotOwner,
-    /// A lock that sleeps in an ordinary state may not be taken inside one that spins.
+    /// A call that may sleep in an ordinary state, as an acquire or `schedule`, was made inside a lock of a
+    /// spinning kind.
     Nesting,
     /// The caller may not leave its processor.
     Pinned,
     /// The wakeup was a success.
     Woke,
-    /// There was nobody to wake.
+    /// Neither the state nor the saved one was a sleep that this ends.
     Missed,
     /// The call is over.
     Done,

@@ -7,14 +7,23 @@ use std::marker::Model;
 /// An event that is chosen, but for its path, which is empty: small enough to be handed from call to call.
 #[derive(Clone, Copy)]
 pub struct Chosen {
+    /// The task that acts.
     pub task: TaskId,
+    /// What it does.
     pub kind: EventKind,
+    /// The lock that it acts on.
     pub lock: Option<LockId>,
+    /// Another task that it acts on: a walk's cursor, a wakeup's target.
     pub other: Option<TaskId>,
+    /// The lock's owner before the event, where the event looks at that task.
     pub owner: Option<TaskId>,
+    /// The task that a lock wakeup goes to.
     pub woken: Option<TaskId>,
+    /// 0, 1, 2 for a state R, S, D; 1 for a signal or a reader; a new priority; 0 else.
     pub value: u8,
+    /// The one task whose effective priority changes, with the new one.
     pub boost: Option<(TaskId, Prio)>,
+    /// The answer of the call, where the event gives one.
     pub reply: Option<Reply>,
 }
 

@@ -32,7 +32,3 @@ pub use Rattle.rt_events.specs.WellFormed
 pub use Rattle.rt_walk.specs.Link
 pub use Rattle.rt_walk.specs.Next
 pub use Rattle.rt_walk.specs.Step
-pub use Rattle.rt_parts.specs.Shared
-pub use Rattle.rt_parts.specs.Thread
-pub use Rattle.rt_parts.specs.Links
-pub use Rattle.rt_choice.specs.Walking

@@ -17,12 +17,12 @@ ghost use Rattle.rt_model.specs.laws.Wakeups.{flat_state};
 ghost use Rattle.rt_model.specs.laws.Local.{AgreeOn};
 ghost use Rattle.rt_events.specs.Entry.{entry};
 ghost use Rattle.rt_events.specs.WellFormed.{IsWellFormed};
-ghost use Rattle.rt_core.specs.Report.{IsNoteWithin, note_of, call_note, blocked_note, readers_note, report_line_of, task_report, lock_report};
+ghost use Rattle.rt_core.specs.Report.{IsNoteWithin, note_of, call_note, report_line_of, task_report, lock_report};
 ghost use Rattle.rt_core.specs.Core.{Made};
 
 use crate::effect::make;
 use crate::enabled::Enabled;
-use crate::note::Note;
+use crate::note::{Note, blocked_note, readers_note};
 use crate::playable::is_playable;
 use crate::report::{write_lock_line, write_task_line};
 use rt_base::limits::{LINE_LIMIT, MAX_TASKS};
@@ -337,25 +337,5 @@ fn waits_spinning(thread: &Thread, task: &TaskCell) -> bool
     match task.blocked() {
         Some(l) => thread.kind_of(l).spins(),
         None => false,
-    }
-}
-
-// Where a queued task stands.
-fn blocked_note(place: Option<(LockId, Prio)>) -> Note
-    ensures { result ≡ blocked_note place }
-{
-    match place {
-        Some((lock, key)) => Note::Lock(lock, key),
-        None => Note::Wake,
-    }
-}
-
-// Where a writer that waits for readers stands.
-fn readers_note(lock: Option<LockId>) -> Note
-    ensures { result ≡ readers_note lock }
-{
-    match lock {
-        Some(lock) => Note::Readers(lock),
-        None => Note::Wake,
     }
 }

@@ -28,6 +28,10 @@ const FAST: Told = (EventKind::Fast, None, None, Some(Reply::Got));
 
 const FREE: Told = (EventKind::Free, None, None, Some(Reply::Done));
 
+const STATE: Told = (EventKind::State, None, None, Some(Reply::Done));
+
+const WAKE: Told = (EventKind::Wake, None, None, Some(Reply::Woke));
+
 const MARK: Told = (EventKind::Mark, None, None, None);
 
 const WAIT: Told = (EventKind::Wait, None, None, None);
@@ -195,8 +199,7 @@ fn a_signal_ends_a_wait(rt: HostRuntime) -> Result<(), Fail> {
         "lock m a 1 b:20\n",
     ];
     reports(&rt, rt.alloc(), &script, &core, lines.as_slice())?;
-    let signal = (EventKind::Wake, None, None, Some(Reply::Woke));
-    makes(&rt, &script, &mut core, 3, A, signal)?;
+    makes(&rt, &script, &mut core, 3, A, WAKE)?;
     let leave = (
         EventKind::Leave,
         None,
@@ -210,6 +213,40 @@ fn a_signal_ends_a_wait(rt: HostRuntime) -> Result<(), Fail> {
         "lock m a 0\n",
     ];
     reports(&rt, rt.alloc(), &script, &core, lines.as_slice())
+}
+
+// The state as it would be if spinlocks put nobody to sleep. A wakeup in the wait for a spinlock ends the sleep
+// that was set before; a wait for a mutex is a sleep of its own in the place of that one.
+#[test]
+fn a_spinlock_leaves_the_flat_state(rt: HostRuntime) -> Result<(), Fail> {
+    let (runs, sleep) = (TaskState::Running, TaskState::Interruptible);
+    let (spin, mutex) = (TaskState::LockWait, TaskState::Uninterruptible);
+    for (kind, lock, unlock, waits, flat, woken) in [
+        ("spin", "spin", "unspin", spin, sleep, spin),
+        ("mutex", "lock", "unlock", mutex, mutex, runs),
+    ] {
+        let text = format!(in rt.alloc();
+            "rtscript 1\ntask a 50 0\ntask b 50 0\ntask d 50 0\nlock s {kind}\n\
+            call a {lock} s\ncall a {unlock} s\ncall b state S\ncall b {lock} s\ncall d wake b\ngo\n"
+        )?;
+        assert!(rt; text.len() < 200);
+        let script = read_script(rt.alloc(), text.as_bytes())?;
+        assert!(rt; Core::can(&script));
+        let mut core = Core::new(rt.alloc(), &script)?;
+        makes(&rt, &script, &mut core, 0, A, FAST)?;
+        makes(&rt, &script, &mut core, 1, B, STATE)?;
+        b_is_in(&rt, &core, sleep, sleep);
+        makes(&rt, &script, &mut core, 2, B, MARK)?;
+        makes(&rt, &script, &mut core, 3, B, WAIT)?;
+        b_is_in(&rt, &core, waits, flat);
+        makes(&rt, &script, &mut core, 4, C, WAKE)?;
+        b_is_in(&rt, &core, woken, runs);
+        let give = (EventKind::Give, Some(B), None, Some(Reply::Done));
+        makes(&rt, &script, &mut core, 5, A, give)?;
+        makes(&rt, &script, &mut core, 6, B, TAKE)?;
+        b_is_in(&rt, &core, runs, runs);
+    }
+    Ok(())
 }
 
 // Makes the next event of a task that isn't in a walk, where so many are made, and compares it.
@@ -297,6 +334,13 @@ fn b_is_woken(rt: &impl Abort, core: &Core) {
     assert_eq!(rt; core.lowest_enabled(), Some(B));
 }
 
+// Compares the state of the second of three tasks, and what it would be without spinlocks.
+fn b_is_in(rt: &impl Abort, core: &Core, state: TaskState, flat: TaskState) {
+    assert!(rt; core.tasks() == 3);
+    assert_eq!(rt; core.cell(B).state(), state);
+    assert_eq!(rt; core.flat_state(B), flat);
+}
+
 // A walk stands at the second task, and nobody else has a next event.
 fn c_walks(rt: &impl Abort, core: &Core) {
     assert!(rt; core.tasks() == 3);
@@ -341,7 +385,7 @@ fn reports(
     Ok(())
 }
 
-// Which scripts the machine plays: mutexes that are taken and released, signals, and priorities that are set.
+// Which scripts the machine plays: mutexes and spinlocks, states that are set, sleeps, wakeups, signals, and priorities.
 #[test]
 fn scripts_that_can_be_played(rt: HostRuntime) -> Result<(), Fail> {
     for (lines, can) in [
@@ -351,7 +395,9 @@ fn scripts_that_can_be_played(rt: HostRuntime) -> Result<(), Fail> {
             "task a 5 0\nlock m mutex\ncall a lock m\ncall a unlock m\n",
             true,
         ),
-        ("lock s spin\n", false),
+        ("lock s spin\n", true),
+        ("lock x rwlock\n", false),
+        ("lock x rwsem\n", false),
         ("lock l local\n", false),
         ("lock m mutex\nlock n mutex\n", true),
         (
@@ -364,13 +410,18 @@ fn scripts_that_can_be_played(rt: HostRuntime) -> Result<(), Fail> {
         ),
         (
             "task a 5 0\nlock m mutex\ncall a lockint m\ncall a state S\n",
-            false,
+            true,
+        ),
+        (
+            "task a 5 0\nlock s spin\ncall a spin s\ncall a tryspin s\ncall a unspin s\n",
+            true,
         ),
         (
             "task a 5 0\ntask b 5 0\ncall b signal a\ncall b wake a\n",
-            false,
+            true,
         ),
-        ("task a 5 0\ncall a schedule\n", false),
+        ("task a 5 0\ncall a schedule\n", true),
+        ("task a 5 0\ncall a schedule\ncall a move 0\n", false),
     ] {
         let text = format!(in rt.alloc(); "rtscript 1\n{lines}go\n")?;
         assert!(rt; text.len() < 1000);

@@ -1,3 +1,6 @@
+ghost use Rattle.std.specs.Prelude.{◌≡◌};
+ghost use Rattle.rt_core.specs.Report.{blocked_note, readers_note};
+
 use rt_base::{LockId, Prio, TaskId};
 
 /// Where a task stands, as the report tells it.
@@ -17,4 +20,24 @@ pub enum Note {
     Readers(LockId),
     /// It sleeps until a wakeup.
     Wake,
+}
+
+/// Where a queued task stands.
+pub fn blocked_note(place: Option<(LockId, Prio)>) -> Note
+    ensures { result ≡ blocked_note place }
+{
+    match place {
+        Some((lock, key)) => Note::Lock(lock, key),
+        None => Note::Wake,
+    }
+}
+
+/// Where a writer that waits for readers stands.
+pub fn readers_note(lock: Option<LockId>) -> Note
+    ensures { result ≡ readers_note lock }
+{
+    match lock {
+        Some(lock) => Note::Readers(lock),
+        None => Note::Wake,
+    }
 }

@@ -11,7 +11,7 @@ type Row = (Call, Option<Kind>, u32, bool, u32, Option<Reply>);
 
 #[test]
 fn a_call_is_refused_by_what_its_thread_knows(rt: HostRuntime) -> Result<(), Fail> {
-    let rows: [Row; 16] = [
+    let rows: [Row; 26] = [
         (Call::Lock(L), Some(Kind::Mutex), 0, false, 0, None),
         (
             Call::Lock(L),
@@ -73,6 +73,51 @@ fn a_call_is_refused_by_what_its_thread_knows(rt: HostRuntime) -> Result<(), Fai
             1,
             Some(Reply::NotOwner),
         ),
+        (Call::Write(L), Some(Kind::RwSem), 0, false, 0, None),
+        (
+            Call::Write(L),
+            Some(Kind::RwSem),
+            1,
+            false,
+            1,
+            Some(Reply::Nesting),
+        ),
+        (
+            Call::Write(L),
+            Some(Kind::RwSem),
+            1,
+            true,
+            1,
+            Some(Reply::Nesting),
+        ),
+        (Call::Downgrade(L), Some(Kind::RwSem), 0, true, 0, None),
+        (
+            Call::Downgrade(L),
+            Some(Kind::RwSem),
+            0,
+            false,
+            0,
+            Some(Reply::NotOwner),
+        ),
+        (Call::Local(L), Some(Kind::Local), 1, false, 1, None),
+        (
+            Call::Local(L),
+            Some(Kind::Local),
+            1,
+            true,
+            1,
+            Some(Reply::Deadlock),
+        ),
+        (Call::Unlocal(L), Some(Kind::Local), 1, true, 1, None),
+        (
+            Call::Unlocal(L),
+            Some(Kind::Local),
+            1,
+            false,
+            1,
+            Some(Reply::NotOwner),
+        ),
+        (Call::Schedule, None, 0, false, 0, None),
         (Call::Schedule, None, 1, false, 1, Some(Reply::Nesting)),
         (Call::Move(Cpu(0)), None, 0, false, 1, Some(Reply::Pinned)),
         (Call::Move(Cpu(0)), None, 0, false, 0, None),

@@ -19,7 +19,7 @@ pub mod Interrupts
 pub mod Cycles
 pub mod Priorities
 pub mod Flat
-pub mod Followed
+pub mod Tracked
 pub mod Wakeups
 pub mod Calls
 pub mod Rest

@@ -268,8 +268,8 @@ impl Thread {
         }
     }
 
-    // Counts a spinlock that it got, `migrate_disable` in `rt_spin_lock`, and no longer one that it gave
-    // back, `migrate_enable` in `rt_spin_unlock`.
+    // Counts a spinlock that it got, `migrate_disable` in `rt_spin_lock` and `rt_spin_trylock`, and no longer
+    // one that it gave back, `migrate_enable` in `rt_spin_unlock`.
     fn count_answer(&mut self, call: &Call, reply: Reply)
         requires { CanCount (Some call.now) reply self.old.migration }
         ensures { self.new ≡ record self.old { migration = migration_after self.old.migration (Some call.now) reply } }

@@ -3,6 +3,6 @@
 pub enum Woken {
     /// The task slept, or was to sleep again, and doesn't any more.
     Woke,
-    /// It didn't sleep.
+    /// Neither its state nor the saved one was a sleep that this ends.
     Missed,
 }

@@ -19,12 +19,18 @@ mod reporting;
 mod row_tests;
 #[cfg(test)]
 mod signal_tests;
+#[cfg(test)]
+mod sleep_tests;
+#[cfg(test)]
+mod spin_tests;
 mod status;
 #[cfg(test)]
 mod test_replays;
 mod top;
 #[cfg(test)]
 mod waiter_tests;
+#[cfg(test)]
+mod wakeup_tests;
 #[cfg(test)]
 mod walk_tests;
 mod words;

@@ -74,7 +74,7 @@ fn rows_of_two_tasks(rt: HostRuntime) -> Result<(), Fail> {
 // What a script may have beside the lines that are played.
 #[test]
 fn which_scripts_are_played(rt: HostRuntime) -> Result<(), Fail> {
-    let rows: [(&[u8], &[u8], u8); 7] = [
+    let rows: [(&[u8], &[u8], u8); 12] = [
         // comments, empty lines, processors, lines that are mixed, and no line feed at the end
         (
             b"rtscript 1\n\n# two processors\ncpus 2\nlock m mutex\ntask a 50 1\ncall a lock m\n#\npick a\ntask b 60 0\ncall a unlock m\ngo",
@@ -117,17 +117,47 @@ fn which_scripts_are_played(rt: HostRuntime) -> Result<(), Fail> {
             b"rtjournal 1\n1 a signal b -> missed\nend done\ntask a 5 5 R R 1/1 end\ntask b 6 6 R R 0/0 end\n",
             0,
         ),
+        // a spinlock that no call names, and no task
+        (
+            b"rtscript 1\nlock s spin\ngo\n",
+            b"rtjournal 1\nend done\nlock s - 0\n",
+            0,
+        ),
+        // a spinlock, with all of its calls
+        (
+            b"rtscript 1\ntask a 5 0\nlock s spin\ncall a spin s\ncall a tryspin s\ncall a unspin s\ngo\n",
+            b"rtjournal 1\n1 a fast s -> got\n2 a busy s -> busy\n3 a free s -> done\nend done\ntask a 5 5 R R 3/3 end\nlock s - 0\n",
+            0,
+        ),
+        // a state, and no lock
+        (
+            b"rtscript 1\ntask a 5 0\ncall a state D\ngo\n",
+            b"rtjournal 1\n1 a state D -> done\nend done\ntask a 5 5 D R 1/1 end\n",
+            0,
+        ),
+        // a call that sleeps, and no lock
+        (
+            b"rtscript 1\ntask a 5 0\ncall a schedule\ngo\n",
+            b"rtjournal 1\n1 a sched -> done\nend done\ntask a 5 5 R R 1/1 end\n",
+            0,
+        ),
+        // a wakeup, and no lock
+        (
+            b"rtscript 1\ntask a 5 0\ntask b 6 0\ncall a wake b\ngo\n",
+            b"rtjournal 1\n1 a wake b -> missed\nend done\ntask a 5 5 R R 1/1 end\ntask b 6 6 R R 0/0 end\n",
+            0,
+        ),
     ];
     compare_replays(&rt, rt.alloc(), &rows)
 }
 
-// What isn't played yet: locks of other kinds, whether a call names them or not, and other calls.
+// What isn't played yet: locks of other kinds, whether a call names them or not, and a call that moves.
 #[test]
 fn which_scripts_are_not_played(rt: HostRuntime) -> Result<(), Fail> {
-    let rows: [(&[u8], &[u8], u8); 8] = [
-        (b"rtscript 1\nlock s spin\ngo\n", NOT_PLAYED, 3),
+    let rows: [(&[u8], &[u8], u8); 6] = [
+        (b"rtscript 1\nlock x rwlock\ngo\n", NOT_PLAYED, 3),
         (
-            b"rtscript 1\nlock m mutex\nlock x rwlock\ngo\n",
+            b"rtscript 1\nlock s spin\nlock m mutex\nlock x rwlock\ngo\n",
             NOT_PLAYED,
             3,
         ),
@@ -138,17 +168,7 @@ fn which_scripts_are_not_played(rt: HostRuntime) -> Result<(), Fail> {
         ),
         (b"rtscript 1\nlock l local\ngo\n", NOT_PLAYED, 3),
         (
-            b"rtscript 1\ntask a 5 0\nlock m mutex\ncall a lockint m\ncall a state S\ngo\n",
-            NOT_PLAYED,
-            3,
-        ),
-        (
-            b"rtscript 1\ntask a 5 0\ncall a schedule\ngo\n",
-            NOT_PLAYED,
-            3,
-        ),
-        (
-            b"rtscript 1\ntask a 5 0\ntask b 5 0\ncall a signal b\ncall b wake a\ngo\n",
+            b"rtscript 1\ntask a 5 0\nlock s spin\nlock x rwsem\ncall a spin s\ncall a unspin s\ncall a read x\ngo\n",
             NOT_PLAYED,
             3,
         ),

@@ -50,6 +50,35 @@ pub(crate) fn compare_replay<R: Abort + Threads + Sync>(
     Ok(())
 }
 
+/// Replays a script that ends done, with each of these priorities in the place of each `#`.
+pub(crate) fn compare_with_priorities<R: Abort + Threads + Sync>(
+    rt: &R,
+    alloc: Global,
+    text: &[u8],
+    printed: &[u8],
+    prios: &[&[u8]],
+) -> Result<(), Fail> {
+    for prio in prios {
+        let text = with_priority(alloc, text, prio)?;
+        let printed = with_priority(alloc, printed, prio)?;
+        compare_replay(rt, alloc, &["replay"], &text, &printed, 0)?;
+    }
+    Ok(())
+}
+
+/// The text with a priority in the place of each `#`.
+fn with_priority(alloc: Global, text: &[u8], prio: &[u8]) -> Result<Vec<u8>, AllocError> {
+    let mut filled = Vec::new(alloc);
+    for byte in text {
+        if *byte == b'#' {
+            filled.extend_from_slice(prio)?;
+        } else {
+            filled.push(*byte)?;
+        }
+    }
+    Ok(filled)
+}
+
 /// The words of a command.
 pub(crate) fn words(alloc: Global, texts: &[&str]) -> Result<Vec<String>, AllocError> {
     let mut words = Vec::new(alloc);

@@ -146,7 +146,7 @@ fn turns(options: Options, script: &Script) -> u64
 // Replays a script. All memory is taken before the first byte is written.
 fn replay_script<K: Sink>(alloc: Global, options: Options, script: &Script, out: &mut K) -> Status
     requires valid { IsScript script.now }
-    requires mutexes { IsPlayable script.now }
+    requires playable { IsPlayable script.now }
     ensures outcome { Replays result script.now (turns_of options script.now) (record { held_before = K.held out.old; held_after = K.held out.new; faults_before = K.faults out.old; faults_after = K.faults out.new }) }
     ensures unwritten { result ≡ Status.NoMemory → out.new ≡ out.old }
     ensures write_count { K.faults out.old ≤ K.faults out.new }

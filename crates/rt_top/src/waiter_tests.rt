@@ -1,6 +1,5 @@
 // Who waits, who is woken, and who gets a lock that is given up.
-use crate::test_replays::compare_replays;
-use std::alloc::{AllocError, Global};
+use crate::test_replays::{compare_replays, compare_with_priorities};
 use std::test::Fail;
 
 #[test]
@@ -248,23 +247,5 @@ fn equal_task_never_steals_a_mutex(rt: HostRuntime) -> Result<(), Fail> {
               task c # # R R 2/2 end\n\
               lock m - 0\n";
     let prios: [&[u8]; 5] = [b"0", b"99", b"100", b"120", b"139"];
-    for prio in prios {
-        let text = with_priority(alloc, text, prio)?;
-        let printed = with_priority(alloc, printed, prio)?;
-        compare_replays(&rt, alloc, &[(text.as_slice(), printed.as_slice(), 0)])?;
-    }
-    Ok(())
-}
-
-/// The text with a priority in the place of each `#`.
-fn with_priority(alloc: Global, text: &[u8], prio: &[u8]) -> Result<Vec<u8>, AllocError> {
-    let mut filled = Vec::new(alloc);
-    for byte in text {
-        if *byte == b'#' {
-            filled.extend_from_slice(prio)?;
-        } else {
-            filled.push(*byte)?;
-        }
-    }
-    Ok(filled)
+    compare_with_priorities(&rt, alloc, text, printed, &prios)
 }

@@ -219,13 +219,14 @@ fn refusals(rt: HostRuntime) -> Result<(), Fail> {
             b"bad script: line 4, fault 8\n",
             3,
         ),
-        // wakeup_spurious
+        // readers_and_writer
         (
-            b"rtscript 1\ntask a 50 0\ntask b 50 0\ntask d 50 0\nlock m mutex\n\
-              call a lock m\ncall a unlock m\n\
-              call b state S\ncall b lock m\ncall b unlock m\ncall b schedule\n\
-              call d wake b\n\
-              pick a\npick b\npick b\npick b\npick d\npick b\ngo\n",
+            b"rtscript 1\ntask r 50 0\ntask q 50 0\ntask w 50 0\ntask d 50 0\nlock x rwlock\n\
+              call r read x\ncall r unread x\n\
+              call q read x\ncall q unread x\n\
+              call w write x\ncall w unwrite x\n\
+              call d state R\n\
+              pick r\npick w\npick w\npick w\npick q\npick r\npick q\npick d\npick q\ngo\n",
             b"bad script: line 0, fault 8\n",
             3,
         ),

@@ -20,7 +20,7 @@ use Rattle.rt_model.specs.steps.Task.{with_own, with_top, sleep_of, saved_for, b
 use Rattle.rt_model.specs.steps.Chain.{rekeyed, refreshed_where_changed}
 use Rattle.rt_model.specs.Effect.{Around}
 use Rattle.rt_model.specs.Rules.{effect}
-use Rattle.rt_model.specs.laws.Flat.{Place, Flat, flat_woken, flat_signalled, flat_woken_by, flat_answer, call_at, is_ordinary, own_at_lock, own_by_kind, flat_own, flat_lock_woken, is_wakeup, flat_after}
+use Rattle.rt_model.specs.laws.Flat.{Seen, Flat, flat_woken, flat_signalled, flat_woken_by, flat_answer, call_at, is_ordinary, own_at_lock, own_by_kind, flat_own, flat_lock_woken, is_wakeup, flat_after}
 use Rattle.rt_model.specs.laws.Owners.{owned_by}
 use Rattle.rt_model.specs.laws.States.{IsRested}
 use Rattle.rt_model.proofs.CellStepLemmas.{woken_by-like, lock_woken-like, where_changed, rekeyed-blocking}
@@ -246,16 +246,16 @@ own_kept kinds.State value call queued ordinary flat is = cc
 own_kept kinds.Sched value call queued ordinary flat is = cc
 own_kept _ value call queued ordinary flat is = chosen_same ordinary flat
 
-module _ (script : Script) (t : TaskId) (place : Place) (e : Event) (flat : Flat) where
+module _ (script : Script) (t : TaskId) (seen : Seen) (e : Event) (flat : Flat) where
   -- what its task makes of them
   abbrev own_part : Flat
-  own_part = cond (nat_eq e.task.0 t.0) (flat_own script t place e flat) flat
+  own_part = cond (nat_eq e.task.0 t.0) (flat_own script t seen e flat) flat
 
   own_part-kept : sets_own e.kind ≡ false → own_part ≡ flat
-  own_part-kept is = ap (λ (x : Flat). cond (nat_eq e.task.0 t.0) x flat) (own_kept e.kind e.value (call_at script t place) place.queued (is_ordinary script e.lock) flat is) ∙ chosen_same (nat_eq e.task.0 t.0) flat
+  own_part-kept is = ap (λ (x : Flat). cond (nat_eq e.task.0 t.0) x flat) (own_kept e.kind e.value (call_at script t seen) seen.queued (is_ordinary script e.lock) flat is) ∙ chosen_same (nat_eq e.task.0 t.0) flat
 
   -- one that wakes nobody
-  wakes_none : e.woken ≡ None → is_wakeup e.kind ≡ false → flat_after script t place e flat ≡ own_part
+  wakes_none : e.woken ≡ None → is_wakeup e.kind ≡ false → flat_after script t seen e flat ≡ own_part
   wakes_none none is = by_parts e.woken (is_wakeup e.kind) none is
     where
       by_parts : (woken : Option TaskId) (wakeup : Bool) → woken ≡ None → wakeup ≡ false
@@ -264,23 +264,23 @@ module _ (script : Script) (t : TaskId) (place : Place) (e : Event) (flat : Flat
       by_parts None true none is = cc
       by_parts None false none is = refl
 
-  pub after-quiet : sets_own e.kind ≡ false → wakes_other e.kind ≡ false → e.woken ≡ None → flat_after script t place e flat ≡ flat
+  pub after-quiet : sets_own e.kind ≡ false → wakes_other e.kind ≡ false → e.woken ≡ None → flat_after script t seen e flat ≡ flat
   after-quiet own others none = wakes_none none (quiet e.kind others) ∙ own_part-kept own
 
-  pub after-other : nat_eq e.task.0 t.0 ≡ false → wakes_other e.kind ≡ false → e.woken ≡ None → flat_after script t place e flat ≡ flat
-  after-other other others none = wakes_none none (quiet e.kind others) ∙ cond-false (nat_eq e.task.0 t.0) (flat_own script t place e flat) flat other
+  pub after-other : nat_eq e.task.0 t.0 ≡ false → wakes_other e.kind ≡ false → e.woken ≡ None → flat_after script t seen e flat ≡ flat
+  after-other other others none = wakes_none none (quiet e.kind others) ∙ cond-false (nat_eq e.task.0 t.0) (flat_own script t seen e flat) flat other
 
-  pub after-own : nat_eq e.task.0 t.0 ≡ true → wakes_other e.kind ≡ false → e.woken ≡ None → flat_after script t place e flat ≡ flat_own script t place e flat
-  after-own own others none = wakes_none none (quiet e.kind others) ∙ cond-true (nat_eq e.task.0 t.0) (flat_own script t place e flat) flat own
+  pub after-own : nat_eq e.task.0 t.0 ≡ true → wakes_other e.kind ≡ false → e.woken ≡ None → flat_after script t seen e flat ≡ flat_own script t seen e flat
+  after-own own others none = wakes_none none (quiet e.kind others) ∙ cond-true (nat_eq e.task.0 t.0) (flat_own script t seen e flat) flat own
 
   -- one that wakes a lock's waiter
-  pub after-lock_woken : sets_own e.kind ≡ false → is_wakeup e.kind ≡ false → flat_after script t place e flat ≡ cond (owned_by e.woken t) (flat_lock_woken script e flat) flat
+  pub after-lock_woken : sets_own e.kind ≡ false → is_wakeup e.kind ≡ false → flat_after script t seen e flat ≡ cond (owned_by e.woken t) (flat_lock_woken script e flat) flat
   after-lock_woken own is =
       ap (λ (b : Bool). cond (b && owned_by e.other t) (flat_woken_by e.value (cond (owned_by e.woken t) (flat_lock_woken script e own_part) own_part)) (cond (owned_by e.woken t) (flat_lock_woken script e own_part) own_part)) is
       ∙ ap (λ (x : Flat). cond (owned_by e.woken t) (flat_lock_woken script e x) x) (own_part-kept own)
 
   -- and a wakeup or a signal
-  pub after-wakeup : sets_own e.kind ≡ false → is_wakeup e.kind ≡ true → e.woken ≡ None → flat_after script t place e flat ≡ cond (owned_by e.other t) (flat_woken_by e.value flat) flat
+  pub after-wakeup : sets_own e.kind ≡ false → is_wakeup e.kind ≡ true → e.woken ≡ None → flat_after script t seen e flat ≡ cond (owned_by e.other t) (flat_woken_by e.value flat) flat
   after-wakeup own is none =
       ap (λ (x : Flat). flat_targeted e.woken (is_wakeup e.kind) x) (own_part-kept own) ∙ λ i. flat_targeted (none i) (is i) flat
     where

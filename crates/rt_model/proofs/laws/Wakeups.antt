@@ -1,20 +1,32 @@
 -- The states of tasks and the answers of wakeups along a run are the flat wakeup machine's.
-use Rattle.std.proofs.Common.{◌≡◌, ℕ, suc, ◌+◌, ◌<◌, Bool, true, false, cond, List, [], ◌∷◌, ◌++◌, length, refl, sym, ap, ◌∙◌, subst, Some}
-use Rattle.std.specs.Prelude.{is_some}
+use Rattle.std.proofs.Common.{◌≡◌, ℕ, suc, ◌+◌, ◌<◌, Bool, true, false, cond, List, [], ◌∷◌, ◌++◌, length, refl, sym, ap, ◌∙◌, subst, Option, Some, None}
+use Rattle.std.specs.Prelude.{is_some, nat_lt}
 use Rattle.std.specs.List.{fold}
 use Rattle.rt_base.specs.Script.{Script, TaskLine}
+use Rattle.rt_base.specs.declared.call.Call.{Call}
+use Rattle.rt_base.specs.declared.call.Call.TheVariants as calls
 use Rattle.rt_base.specs.declared.id.TaskId.{TaskId}
+use Rattle.rt_base.specs.declared.kind.Kind.{Kind}
 use Rattle.rt_base.specs.declared.reply.Reply.{Reply}
+use Rattle.rt_base.specs.declared.reply.Reply.TheVariants as replies
 use Rattle.rt_model.specs.declared.event.Event.{Event}
 use Rattle.rt_model.specs.declared.event_kind.EventKind.TheVariants as kinds
+use Rattle.rt_model.specs.declared.phase.Phase.{Phase}
+use Rattle.rt_model.specs.declared.phase.Route.{Route}
+use Rattle.rt_model.specs.declared.phase.Route.TheVariants.{Full}
 use Rattle.rt_model.specs.Parts.{TaskPart, ThreadPart}
+use Rattle.rt_model.specs.Stage.{IsServed, IsToCome}
+use Rattle.rt_model.specs.steps.Chain.{answer_of_walk}
+use Rattle.rt_model.specs.events.Own.{if_held, if_not_held, unless_nested, private_answer}
 use Rattle.rt_model.specs.State.{State, start, fresh_task, fresh_thread, kinds_in, no_task, no_thread, task_part, thread_part}
 use Rattle.rt_model.specs.StateAfter.{state_after}
 use Rattle.rt_model.specs.Run.{after, IsRun}
-use Rattle.rt_model.specs.laws.Flat.{first_place, Flat, first_flat, flat_answer, is_wakeup, Followed, follow_event, flat_of}
+use Rattle.rt_model.specs.laws.Flat.{first_seen, Flat, first_flat, flat_answer, is_wakeup, Tracked, track_event, flat_of}
 use Rattle.rt_model.specs.laws.Lawful.{IsLawful}
 use Rattle.rt_model.specs.laws.Shape.{IsOf}
-use Rattle.rt_model.specs.laws.Wakeups.{flat_state, WakeupsLaw}
+use Rattle.rt_model.specs.laws.Wakeups.{flat_state, tells_wakeup, WakeupsLaw}
+use Rattle.std.proofs.lemmas.Bool.{cond_both}
+use Rattle.rt_model.proofs.ToCome.{to_come-holds, answered-holds}
 use Rattle.rt_model.proofs.Lists.{All-read, All-made}
 use Rattle.rt_model.proofs.NextEvents.{IsNext, by_own, by_acquire, by_wait, by_release, by_walk, by_confirm, by_wakeup, by_setprio}
 use Rattle.rt_model.proofs.Prefixes.{run-prefix, run-next, run-lawful, lawful-there, next-there, next-task, IsOf-along}
@@ -24,22 +36,22 @@ use Rattle.rt_model.proofs.events.Acquire.{is_fast, is_mark, is_take, is_busy}
 use Rattle.rt_model.proofs.events.Wait.{is_wait, is_again, is_leave}
 use Rattle.rt_model.proofs.events.Release.{is_free, is_give}
 use Rattle.rt_model.proofs.events.Wakeups.{is_state, is_sched, is_wake, is_signal}
-use Rattle.rt_model.proofs.events.Walk.{is_walk, is_walkend, is_restart, is_cycle}
+use Rattle.rt_model.proofs.events.Walk.{WalksIn, by_full, by_short, is_walk, is_walkend, is_restart, is_cycle}
 use Rattle.rt_model.proofs.laws.Shape.{IsOf-after, IsOf-threads}
 use Rattle.rt_model.proofs.laws.Flat.{spins_in, fields, flat_at, wake-answer, signal-answer}
 use Rattle.rt_model.proofs.laws.Holders.{other_kind}
-use Rattle.rt_model.proofs.laws.Followed.{spins-of, rests, followed_at, targeted, follows}
+use Rattle.rt_model.proofs.laws.Tracked.{spins-of, rests, tracked_at, targeted, tracks}
 
 -- ---- along a run
 
 along : (script : Script) (s : State) (made : ℕ) (events : List Event) → IsLawful s made → IsOf script s → IsRun s events → (u : TaskId) → u.0 < length script.tasks
-    → fold (follow_event script u) (followed_at script s u) events ≡ followed_at script (after s events) u
+    → fold (track_event script u) (tracked_at script s u) events ≡ tracked_at script (after s events) u
 along script s made [] lawful scripted run u lt = refl
 along script s made (e ∷ events) lawful scripted run u lt =
     let there = next-task s e.task e run.0 in
     let left = run-lawful s made e events lawful run in
     let within = subst (λ (n : ℕ). u.0 < n) (sym (IsOf-threads script s scripted)) lt in
-    ap (λ (at : Followed). fold (follow_event script u) at events) (follows script s made e lawful scripted there left.rows (run-next s made e events lawful run) u within)
+    ap (λ (at : Tracked). fold (track_event script u) at events) (tracks script s made e lawful scripted there left.rows (run-next s made e events lawful run) u within)
     ∙ along script (state_after s e) (suc made) events left (IsOf-after script s e there scripted) run.1 u lt
 
 -- at the start no call is answered, and each task runs
@@ -52,9 +64,9 @@ thread-start script t =
     let fresh : TaskLine → ThreadPart = λ line. fresh_thread (kinds_in script) line.calls line.cpu in
     All-read (λ (thread : ThreadPart). thread.answered ≡ 0) (start script).threads t.0 no_thread (All-made (λ (thread : ThreadPart). thread.answered ≡ 0) fresh (λ line. refl) script.tasks) refl
 
-followed-start : (script : Script) (t : TaskId) → record { place = first_place; flat = first_flat } ≡ followed_at script (start script) t
-followed-start script t = λ i. record {
-  place = record { answered = sym (thread-start script t) i; queued = sym (task-start script (λ task. is_some task.blocked ≡ false) t (λ n own. refl)) i };
+tracked-start : (script : Script) (t : TaskId) → record { seen = first_seen; flat = first_flat } ≡ tracked_at script (start script) t
+tracked-start script t = λ i. record {
+  seen = record { answered = sym (thread-start script t) i; queued = sym (task-start script (λ task. is_some task.blocked ≡ false) t (λ n own. refl)) i };
   flat = sym (task-start script (λ task. flat_at script task ≡ first_flat) t (λ n own. refl)) i;
 }
 
@@ -98,6 +110,75 @@ module _ (script : Script) (s : State) (made : ℕ) (e : Event) (lawful : IsLawf
   answered (by_confirm l path (is_cycle is)) wakeup = absurd (other_kind is_wakeup e _ is.event refl wakeup)
   answered (by_setprio u prio is) wakeup = absurd (other_kind is_wakeup e _ is.event refl wakeup)
 
+-- ---- no other event is answered as a wakeup is
+
+abbrev Quiet : Option Reply → Type 0
+Quiet reply = tells_wakeup reply ≡ false
+
+quiet-held : (held : Bool) → Quiet (if_held held)
+quiet-held true = refl
+quiet-held false = refl
+
+quiet-not_held : (held : Bool) → Quiet (if_not_held held)
+quiet-not_held true = refl
+quiet-not_held false = refl
+
+quiet-nested : (n : ℕ) (reply : Option Reply) → Quiet reply → Quiet (unless_nested n reply)
+quiet-nested n reply quiet = cond_both (nat_lt 0 n) (Some replies.Nesting) reply Quiet (λ is. refl) (λ is. quiet)
+
+quiet-own : (m l : ℕ) (call : Call) (kind : Option Kind) (nested : ℕ) (held : Bool) (migration : ℕ) → IsServed m l call → Quiet (private_answer call kind nested held migration)
+quiet-own m n (calls.Lock l) kind nested held migration served = quiet-nested nested (if_held held) (quiet-held held)
+quiet-own m n (calls.LockInt l) kind nested held migration served = quiet-nested nested (if_held held) (quiet-held held)
+quiet-own m n (calls.Spin l) kind nested held migration served = quiet-held held
+quiet-own m n (calls.Unlock l) kind nested held migration served = quiet-not_held held
+quiet-own m n (calls.Unspin l) kind nested held migration served = quiet-not_held held
+quiet-own m n calls.Schedule kind nested held migration served = quiet-nested nested None refl
+quiet-own m n (calls.TryLock l) kind nested held migration served = refl
+quiet-own m n (calls.TrySpin l) kind nested held migration served = refl
+quiet-own m n (calls.State state) kind nested held migration served = refl
+quiet-own m n (calls.Wake u) kind nested held migration served = refl
+quiet-own m n (calls.Signal u) kind nested held migration served = refl
+quiet-own m n (calls.SetPrio u prio) kind nested held migration served = refl
+quiet-own m n _ kind nested held migration served = absurd served
+
+-- a walk's answer is one that was to come
+quiet-to_come : (call : Call) (answer : Reply) → IsToCome call answer → Quiet (Some answer)
+quiet-to_come call answer to_come = to_come-holds (λ c a. Quiet (Some a)) call answer to_come (λ l. refl) (λ l. refl) (λ l. refl) (λ l. refl) (λ u prio. refl)
+
+quiet-walk : (s : State) (t : TaskId) (route : Route) (u : TaskId) (next : Option Phase) → WalksIn s t route u → Quiet (answer_of_walk route next)
+quiet-walk s t route u next (by_full path l same asks) = subst (λ (r : Route). Quiet (answer_of_walk r next)) (sym same) (quiet-full next)
+  where
+    quiet-full : (next : Option Phase) → Quiet (answer_of_walk (Full path) next)
+    quiet-full None = refl
+    quiet-full (Some phase) = refl
+quiet-walk s t route u next (by_short call answer same at to_come) = subst (λ (r : Route). Quiet (answer_of_walk r next)) (sym same) (answered-holds Quiet answer next (quiet-to_come call answer to_come) refl)
+
+-- an event that comes about as x, which isn't answered so
+others : (e x : Event) → e ≡ x → Quiet x.reply → tells_wakeup e.reply ≡ true → ⊥
+others e x is quiet told = let same : tells_wakeup e.reply ≡ tells_wakeup x.reply = ap (λ (y : Event). tells_wakeup y.reply) is in cc
+
+wakes : (s : State) (t : TaskId) (e : Event) → IsNext s t e → tells_wakeup e.reply ≡ true → e.kind ≡ kinds.Wake
+wakes s t e (by_wakeup (is_wake v is)) told = ap (λ (x : Event). x.kind) is.event
+wakes s t e (by_wakeup (is_signal v is)) told = ap (λ (x : Event). x.kind) is.event
+wakes s t e (by_wakeup (is_state state is)) told = absurd (others e _ is.event refl told)
+wakes s t e (by_wakeup (is_sched is)) told = absurd (others e _ is.event refl told)
+wakes s t e (by_own call answer is) told =
+    absurd (others e _ is.event (subst Quiet is.why (quiet-own (length s.threads) (length s.locks) call _ _ _ _ is.at.served)) told)
+wakes s t e (by_acquire l (is_fast is)) told = absurd (others e _ is.event refl told)
+wakes s t e (by_acquire l (is_mark is)) told = absurd (others e _ is.event refl told)
+wakes s t e (by_acquire l (is_take is)) told = absurd (others e _ is.event refl told)
+wakes s t e (by_acquire l (is_busy is)) told = absurd (others e _ is.event refl told)
+wakes s t e (by_wait l (is_wait is)) told = absurd (others e _ is.event refl told)
+wakes s t e (by_wait l (is_again is)) told = absurd (others e _ is.event refl told)
+wakes s t e (by_wait l (is_leave is)) told = absurd (others e _ is.event (answered-holds Quiet replies.Interrupted _ refl refl) told)
+wakes s t e (by_release l (is_free is)) told = absurd (others e _ is.event refl told)
+wakes s t e (by_release l (is_give is)) told = absurd (others e _ is.event refl told)
+wakes s t e (by_walk route u (is_walk l key is)) told = absurd (others e _ is.event (quiet-walk s t route u _ is.how) told)
+wakes s t e (by_walk route u (is_walkend is)) told = absurd (others e _ is.event (quiet-walk s t route u None is.how) told)
+wakes s t e (by_confirm l path (is_restart link is)) told = absurd (others e _ is.event refl told)
+wakes s t e (by_confirm l path (is_cycle is)) told = absurd (others e _ is.event (answered-holds Quiet replies.Deadlock _ refl refl) told)
+wakes s t e (by_setprio u prio is) told = absurd (others e _ is.event (answered-holds Quiet replies.Done _ refl refl) told)
+
 module _ (script : Script) (events : List Event) (lawful : IsLawful (start script) 0) (run : IsRun (start script) events) where
   there : (prefix rest : List Event) → prefix ++ rest ≡ events → IsOf script (after (start script) prefix)
   there prefix rest is = IsOf-along script (start script) prefix (IsOf-start script) (run-prefix (start script) prefix rest (subst (IsRun (start script)) (sym is) run))
@@ -105,8 +186,8 @@ module _ (script : Script) (events : List Event) (lawful : IsLawful (start scrip
   -- the two fields of a task after a prefix
   flat-there : (prefix rest : List Event) (t : TaskId) → prefix ++ rest ≡ events → t.0 < length script.tasks → flat_of script t prefix ≡ flat_at script (task_part (after (start script) prefix) t)
   flat-there prefix rest t is lt =
-      ap (λ (at : Followed). (fold (follow_event script t) at prefix).flat) (followed-start script t)
-      ∙ ap (λ (at : Followed). at.flat)
+      ap (λ (at : Tracked). (fold (track_event script t) at prefix).flat) (tracked-start script t)
+      ∙ ap (λ (at : Tracked). at.flat)
       (along script (start script) 0 prefix lawful (IsOf-start script) (run-prefix (start script) prefix rest (subst (IsRun (start script)) (sym is) run)) t lt)
 
   state-there : (prefix rest : List Event) (t : TaskId) → prefix ++ rest ≡ events → t.0 < length script.tasks
@@ -129,4 +210,5 @@ module _ (script : Script) (events : List Event) (lawful : IsLawful (start scrip
     states = state-there;
     signals = λ prefix rest t is lt. sym (ap (λ (flat : Flat). flat.signal) (flat-there prefix rest t is lt));
     answers = answer-there;
+    told = λ prefix rest e is told. wakes (after (start script) prefix) e.task e (next-there (start script) 0 events lawful run prefix rest e is) told;
   }

@@ -17,15 +17,15 @@ use Rattle.rt_model.specs.declared.event_kind.EventKind.TheVariants as kinds
 use Rattle.rt_model.specs.steps.Task.{sleep_of, sleeps, is_interruptible, state_numbered}
 use Rattle.rt_model.specs.laws.Owners.{owned_by}
 
--- ---- where its own events have brought a task
+-- ---- what its own events tell of a task
 
 -- how many of its calls are answered, and whether it is queued in the present one
-pub record Place : Type 0 where
+pub record Seen : Type 0 where
   pub answered : ℕ
   pub queued : Bool
 
-abbrev pub first_place : Place
-first_place = record { answered = 0; queued = false }
+abbrev pub first_seen : Seen
+first_seen = record { answered = 0; queued = false }
 
 abbrev pub count_answer : ℕ → Option Reply → ℕ
 count_answer n None = n
@@ -39,12 +39,12 @@ queued_after kinds.Leave queued = false
 queued_after kinds.Cycle queued = false
 queued_after kind queued = queued
 
-abbrev pub place_after : Event → Place → Place
-place_after e place = record { answered = count_answer place.answered e.reply; queued = queued_after e.kind place.queued }
+abbrev pub seen_after : Event → Seen → Seen
+seen_after e seen = record { answered = count_answer seen.answered e.reply; queued = queued_after e.kind seen.queued }
 
--- the call that a task is at there
-abbrev pub call_at : Script → TaskId → Place → Option Call
-call_at script t place = slice_get (task_line script t).calls place.answered
+-- the call that a task is at then
+abbrev pub call_at : Script → TaskId → Seen → Option Call
+call_at script t seen = slice_get (task_line script t).calls seen.answered
 
 -- ---- the two fields
 
@@ -79,8 +79,8 @@ abbrev pub is_ordinary : Script → Option LockId → Bool
 is_ordinary script None = false
 is_ordinary script (Some l) = not (spins (lock_line script l).kind)
 
--- a lock of a kind that doesn't spin puts its own task to sleep in this call, and lets a queued one run again; so far the owner parts
--- of locks alone
+-- an event at a lock of a kind that doesn't spin puts its task to sleep, as this call does, and lets it run again where it was queued;
+-- so far at the owner parts of locks alone
 abbrev pub own_at_lock : EventKind → Option Call → Bool → Flat → Flat
 own_at_lock kinds.Wait call queued flat = record flat { state = sleep_of call }
 own_at_lock kinds.Again call queued flat = record flat { state = sleep_of call }
@@ -96,9 +96,9 @@ own_by_kind kinds.Sched value flat = record flat { state = Running }
 own_by_kind kinds.Leave value flat = record flat { signal = false }
 own_by_kind kind value flat = flat
 
-abbrev pub flat_own : Script → TaskId → Place → Event → Flat → Flat
-flat_own script t place e flat =
-    let at_lock = if is_ordinary script e.lock then own_at_lock e.kind (call_at script t place) place.queued flat else flat in
+abbrev pub flat_own : Script → TaskId → Seen → Event → Flat → Flat
+flat_own script t seen e flat =
+    let at_lock = if is_ordinary script e.lock then own_at_lock e.kind (call_at script t seen) seen.queued flat else flat in
     own_by_kind e.kind e.value at_lock
 
 -- an event wakes the task, where its lock is of a kind that doesn't spin
@@ -110,33 +110,33 @@ abbrev pub is_wakeup : EventKind → Bool
 is_wakeup kinds.Wake = true
 is_wakeup kind = false
 
--- a slot of the event names the task
-abbrev pub is_named : Option TaskId → TaskId → Bool
-is_named named t = owned_by named t
+-- a slot of the event names the task, as a lock's owner does
+abbrev pub names : Option TaskId → TaskId → Bool
+names named t = owned_by named t
 
 -- what the event makes of the task's two fields: as the one that acts, as the one that a lock wakeup goes to, and as the target of a
 -- wakeup or a signal
-abbrev pub flat_after : Script → TaskId → Place → Event → Flat → Flat
-flat_after script t place e flat =
-    let own = if nat_eq e.task.0 t.0 then flat_own script t place e flat else flat in
-    let lock_woken = if is_named e.woken t then flat_lock_woken script e own else own in
-    if is_wakeup e.kind && is_named e.other t then flat_woken_by e.value lock_woken else lock_woken
+abbrev pub flat_after : Script → TaskId → Seen → Event → Flat → Flat
+flat_after script t seen e flat =
+    let own = if nat_eq e.task.0 t.0 then flat_own script t seen e flat else flat in
+    let lock_woken = if names e.woken t then flat_lock_woken script e own else own in
+    if is_wakeup e.kind && names e.other t then flat_woken_by e.value lock_woken else lock_woken
 
 -- ---- along the events
 
-pub record Followed : Type 0 where
-  pub place : Place
+pub record Tracked : Type 0 where
+  pub seen : Seen
   pub flat : Flat
 
-abbrev pub follow_event : Script → TaskId → Followed → Event → Followed
-follow_event script t at e = record {
-  place = if nat_eq e.task.0 t.0 then place_after e at.place else at.place;
-  flat = flat_after script t at.place e at.flat;
+abbrev pub track_event : Script → TaskId → Tracked → Event → Tracked
+track_event script t at e = record {
+  seen = if nat_eq e.task.0 t.0 then seen_after e at.seen else at.seen;
+  flat = flat_after script t at.seen e at.flat;
 }
 
-abbrev pub followed_of : Script → TaskId → List Event → Followed
-followed_of script t events = fold (follow_event script t) (record { place = first_place; flat = first_flat }) events
+abbrev pub tracked_of : Script → TaskId → List Event → Tracked
+tracked_of script t events = fold (track_event script t) (record { seen = first_seen; flat = first_flat }) events
 
 -- the task's two fields after these events
 abbrev pub flat_of : Script → TaskId → List Event → Flat
-flat_of script t events = (followed_of script t events).flat
+flat_of script t events = (tracked_of script t events).flat

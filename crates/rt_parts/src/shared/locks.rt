@@ -39,7 +39,7 @@ impl Shared {
         self.locks[l.0 as usize].set_bit();
     }
 
-    /// Makes a task, queued or not, the owner of a lock that it takes.
+    /// Makes a task, queued or not, the owner of a lock that it takes, `try_to_take_rt_mutex`.
     pub fn take(&mut self, l: LockId, t: TaskId)
         requires lock { l.0 < length self.old.locks }
         requires task { t.0 < length self.old.tasks }
@@ -48,7 +48,7 @@ impl Shared {
         take::<Brand>(&mut self.locks[l.0 as usize], t, Blank::new(1));
     }
 
-    /// Queues a task at a lock with its effective priority.
+    /// Queues a task at a lock with its effective priority, `rt_mutex_enqueue`.
     pub fn enqueue(&mut self, l: LockId, t: TaskId)
         requires lock { l.0 < length self.old.locks }
         requires task { t.0 < length self.old.tasks }
@@ -60,7 +60,7 @@ impl Shared {
         enqueue::<Brand>(&mut self.locks[l.0 as usize], t, key, Blank::new(1));
     }
 
-    /// Takes a task's row out of the queue of a lock.
+    /// Takes a task's row out of the queue of a lock, `rt_mutex_dequeue`.
     pub fn remove(&mut self, l: LockId, t: TaskId)
         requires { l.0 < length self.old.locks }
         ensures { self.new ≡ record self.old { locks = update self.old.locks l.0 (left_by t) } }
@@ -68,7 +68,7 @@ impl Shared {
         remove::<Brand>(&mut self.locks[l.0 as usize], t, Blank::new(1));
     }
 
-    /// Gives a lock up.
+    /// Gives a lock up, `mark_wakeup_next_waiter`.
     pub fn give(&mut self, l: LockId)
         requires { l.0 < length self.old.locks }
         ensures { self.new ≡ record self.old { locks = update self.old.locks l.0 given_up } }

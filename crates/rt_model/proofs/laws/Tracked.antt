@@ -1,4 +1,4 @@
--- What a next event makes of a task's place and of its two fields is what the flat wakeup machine makes of them.
+-- What a next event makes of what is seen of a task, and of its two fields, is what the flat wakeup machine makes of them.
 use Rattle.std.proofs.Common.{◌≡◌, ℕ, zero, suc, ◌<◌, Bool, true, false, cond, not, ◌&&◌, List, [], ◌∷◌, length, map, refl, sym, ap, ◌∙◌, subst, Option, Some, None, unwrap_or}
 use Rattle.std.specs.Prelude.{option_map, is_some, is_none, nat_eq, slice_get}
 use Rattle.std.proofs.lemmas.Bool.{cond-true, cond-false}
@@ -31,7 +31,7 @@ use Rattle.rt_model.specs.steps.Chain.{newly_top}
 use Rattle.rt_model.specs.steps.Lock.{taken_by}
 use Rattle.rt_model.specs.steps.Task.{state_number, state_numbered, sleep_of, rest_of, blocked_on, restored, leave_queue, lock_woken}
 use Rattle.rt_model.specs.steps.Thread.{answered_with}
-use Rattle.rt_model.specs.laws.Flat.{Place, count_answer, queued_after, place_after, call_at, Flat, flat_woken, flat_woken_by, is_ordinary, flat_own, is_wakeup, flat_after, Followed, follow_event}
+use Rattle.rt_model.specs.laws.Flat.{Seen, count_answer, queued_after, seen_after, call_at, Flat, flat_woken, flat_woken_by, is_ordinary, flat_own, is_wakeup, flat_after, Tracked, track_event}
 use Rattle.rt_model.specs.laws.Lawful.{IsLawful}
 use Rattle.rt_model.specs.laws.Owners.{owned_by}
 use Rattle.rt_model.specs.laws.Rows.{RowsLaw, key_at}
@@ -86,11 +86,11 @@ module _ (script : Script) (s : State) (scripted : IsOf script s) (t : TaskId) w
       ∙ (ap (λ (all : List (List Call)). unwrap_or (slice_get all t.0) []) scripted.calls ∙ read-seen (λ (line : TaskLine). line.calls) script.tasks t.0 _)
 
 -- where a task's events have brought it, and its two fields
-abbrev pub place_at : State → TaskId → Place
+abbrev pub place_at : State → TaskId → Seen
 place_at s t = record { answered = (thread_part s t).answered; queued = is_some (task_part s t).blocked }
 
-abbrev pub followed_at : Script → State → TaskId → Followed
-followed_at script s t = record { place = place_at s t; flat = flat_at script (task_part s t) }
+abbrev pub tracked_at : Script → State → TaskId → Tracked
+tracked_at script s t = record { seen = place_at s t; flat = flat_at script (task_part s t) }
 
 -- ---- which event changes a task's states
 
@@ -169,7 +169,7 @@ queued-kept kinds.Leave queued is = cc
 queued-kept kinds.Cycle queued is = cc
 queued-kept _ queued is = refl
 
--- the place of the event's own task, and of every other
+-- what is seen of the event's own task, and of every other
 module _ (s : State) (made : ℕ) (e : Event) (lawful : IsLawful s made) where
   queued_still : changes_own e.kind ≡ false → is_some (task_part (state_after s e) e.task).blocked ≡ queued_after e.kind (is_some (task_part s e.task).blocked)
   queued_still kept =
@@ -195,20 +195,20 @@ module _ (s : State) (made : ℕ) (e : Event) (lawful : IsLawful s made) where
   own-queued (gives l is) = queued_as _ is.event refl
   own-queued (walks route u l key is) = queued_as _ is.event refl
 
-  own-place : e.task.0 < length s.threads → Changes s e.task e → place_after e (place_at s e.task) ≡ place_at (state_after s e) e.task
-  own-place there how = λ i. record { answered = sym (own-answered s e there) i; queued = sym (own-queued how) i }
+  own-seen : e.task.0 < length s.threads → Changes s e.task e → seen_after e (place_at s e.task) ≡ place_at (state_after s e) e.task
+  own-seen there how = λ i. record { answered = sym (own-answered s e there) i; queued = sym (own-queued how) i }
 
-  other-place : (u : TaskId) → nat_eq e.task.0 u.0 ≡ false → place_at s u ≡ place_at (state_after s e) u
-  other-place u ne = λ i. record {
+  other-seen : (u : TaskId) → nat_eq e.task.0 u.0 ≡ false → place_at s u ≡ place_at (state_after s e) u
+  other-seen u ne = λ i. record {
     answered = sym (ap (λ (thread : ThreadPart). thread.answered) (thread-other s e u ne)) i;
     queued = sym (queued-same (task_part s u).blocked (task_part (state_after s e) u).blocked (blocking-other s e u ne)) i;
   }
 
-  place_left : (u : TaskId) → e.task.0 < length s.threads → Changes s e.task e → cond (nat_eq e.task.0 u.0) (place_after e (place_at s u)) (place_at s u) ≡ place_at (state_after s e) u
+  place_left : (u : TaskId) → e.task.0 < length s.threads → Changes s e.task e → cond (nat_eq e.task.0 u.0) (seen_after e (place_at s u)) (place_at s u) ≡ place_at (state_after s e) u
   place_left u there how =
-      at_each_task (λ v. cond (nat_eq e.task.0 v.0) (place_after e (place_at s v)) (place_at s v) ≡ place_at (state_after s e) v) e.task u
-      (cond-true (nat_eq e.task.0 e.task.0) (place_after e (place_at s e.task)) (place_at s e.task) (number_itself e.task.0) ∙ own-place there how)
-      (λ ne. cond-false (nat_eq e.task.0 u.0) (place_after e (place_at s u)) (place_at s u) ne ∙ other-place u ne)
+      at_each_task (λ v. cond (nat_eq e.task.0 v.0) (seen_after e (place_at s v)) (place_at s v) ≡ place_at (state_after s e) v) e.task u
+      (cond-true (nat_eq e.task.0 e.task.0) (seen_after e (place_at s e.task)) (place_at s e.task) (number_itself e.task.0) ∙ own-seen there how)
+      (λ ne. cond-false (nat_eq e.task.0 u.0) (seen_after e (place_at s u)) (place_at s u) ne ∙ other-seen u ne)
 
 -- ---- the top waiter of a lock is blocked on it
 
@@ -485,7 +485,7 @@ module _ (script : Script) (s : State) (made : ℕ) (e : Event) (lawful : IsLawf
   fits rows (walks route v l key is) u lt = fits_walk route v l key is rows u lt
 
   -- so what the task has is what the event makes of it
-  pub follows : RowsLaw (state_after s e) (suc made) → IsNext s e.task e → (u : TaskId) → u.0 < length s.threads → follow_event script u (followed_at script s u) e ≡ followed_at script (state_after s e) u
-  follows rows next u lt =
+  pub tracks : RowsLaw (state_after s e) (suc made) → IsNext s e.task e → (u : TaskId) → u.0 < length s.threads → track_event script u (tracked_at script s u) e ≡ tracked_at script (state_after s e) u
+  tracks rows next u lt =
       let how = changes s made e.task e lawful next in
-      λ i. record { place = place_left s made e lawful u there how i; flat = fits rows how u lt i }
+      λ i. record { seen = place_left s made e lawful u there how i; flat = fits rows how u lt i }

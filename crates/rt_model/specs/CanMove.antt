@@ -10,7 +10,7 @@ use Rattle.rt_model.specs.declared.phase.Phase.{Phase}
 use Rattle.rt_model.specs.declared.phase.Phase.TheVariants as phases
 use Rattle.rt_model.specs.Parts.{TaskPart, ThreadPart, call_of}
 use Rattle.rt_model.specs.Choice.{called_lock}
-use Rattle.rt_model.specs.steps.Task.{passes}
+use Rattle.rt_model.specs.steps.Task.{runs, passes}
 use Rattle.rt_model.specs.events.Own.{own_answer}
 use Rattle.rt_model.specs.events.Wait.{is_awake}
 
@@ -23,6 +23,13 @@ has_first (calls.Unlock l) task = true
 has_first (calls.Spin l) task = true
 has_first (calls.TrySpin l) task = true
 has_first (calls.Unspin l) task = true
+has_first (calls.Read l) task = true
+has_first (calls.TryRead l) task = true
+has_first (calls.Unread l) task = true
+has_first (calls.Write l) task = true
+has_first (calls.TryWrite l) task = true
+has_first (calls.Unwrite l) task = true
+has_first (calls.Downgrade l) task = true
 has_first (calls.State state) task = true
 has_first calls.Schedule task = passes task
 has_first (calls.Wake u) task = true
@@ -30,12 +37,20 @@ has_first (calls.Signal u) task = true
 has_first (calls.SetPrio u prio) task = true
 has_first _ task = false
 
--- a call that has made its first event goes on, while it is queued only where its task runs or is interrupted
+-- a call that has made its first event goes on, while it is queued only where its task runs or is interrupted, and while it sleeps for
+-- readers only where its task runs
 abbrev pub can_go_on : Phase → ThreadPart → TaskPart → Option LockId → Bool
+can_go_on phases.Inner thread task (Some l) = true
 can_go_on phases.Slow thread task (Some l) = true
 can_go_on phases.Wait thread task (Some l) = is_awake (call_of thread) task
 can_go_on (phases.Walk cursor route) thread task lock = true
 can_go_on (phases.Confirm path) thread task lock = true
+can_go_on phases.ReadIn thread task (Some l) = true
+can_go_on phases.Unbias thread task (Some l) = true
+can_go_on phases.WTry thread task (Some l) = true
+can_go_on phases.WWait thread task (Some l) = runs task.state
+can_go_on phases.Release thread task (Some l) = true
+can_go_on phases.WakeWriter thread task (Some l) = true
 can_go_on _ thread task lock = false
 
 abbrev pub can_in : Phase → ThreadPart → TaskPart → Call → Bool

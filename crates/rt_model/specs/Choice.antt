@@ -1,5 +1,5 @@
 -- Words of which the choice of an event is made.
-use Rattle.std.specs.Prelude.{ℕ, ◌+◌, [], Option, Some, None, nat_eq, if◌then◌else◌}
+use Rattle.std.specs.Prelude.{ℕ, ◌+◌, Bool, false, [], Option, Some, None, option_and_then, nat_eq, if◌then◌else◌}
 use Rattle.rt_base.specs.declared.call.Call.{Call}
 use Rattle.rt_base.specs.declared.call.Call.TheVariants as calls
 use Rattle.rt_base.specs.declared.id.Cpu.{Cpu}
@@ -7,6 +7,7 @@ use Rattle.rt_base.specs.declared.id.LockId.{LockId}
 use Rattle.rt_base.specs.declared.id.TaskId.{TaskId}
 use Rattle.rt_model.specs.declared.event.Event.{Event}
 use Rattle.rt_model.specs.declared.event_kind.EventKind.{EventKind}
+use Rattle.rt_model.specs.Parts.{ThreadPart, call_of}
 
 -- an event that names nothing but its task
 abbrev pub bare : TaskId → EventKind → Event
@@ -40,3 +41,12 @@ called_lock cpu (calls.Downgrade l) = Some l
 called_lock cpu (calls.Local l) = Some (record { 0 = l.0 + cpu.0 })
 called_lock cpu (calls.Unlocal l) = Some (record { 0 = l.0 + cpu.0 })
 called_lock cpu _ = None
+
+-- the lock that a thread's present call is about
+abbrev pub present_lock : ThreadPart → Option LockId
+present_lock thread = option_and_then (called_lock thread.cpu) (call_of thread)
+
+-- what may be named is this lock
+abbrev pub is_on : Option LockId → LockId → Bool
+is_on None l = false
+is_on (Some m) l = nat_eq m.0 l.0

@@ -50,6 +50,6 @@ pub record Rule : Type 0 where
   pub touched : Event → Touched
   pub effect : Event → ThreadPart → Around → Effect
 
--- a kind that changes nothing but by its answer, and one that no script makes yet: what it touches alone
+-- a kind that changes nothing but by its answer: what it touches alone
 abbrev pub touches_alone : (Event → Touched) → Rule
 touches_alone touched = record { touched = touched; effect = λ e thread found. unchanged }

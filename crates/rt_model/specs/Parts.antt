@@ -1,11 +1,11 @@
 -- The objects of the machine: what a lock, a task and a thread are.
-use Rattle.std.specs.Prelude.{ℕ, ◌+◌, Bool, false, List, [], ◌∷◌, min, Option, Some, None, unwrap_or, slice_get}
+use Rattle.std.specs.Prelude.{ℕ, ◌+◌, Bool, true, false, List, [], ◌∷◌, min, Option, Some, None, unwrap_or, slice_get}
 use Rattle.rt_base.specs.declared.call.Call.{Call}
 use Rattle.rt_base.specs.declared.id.LockId.{LockId}
 use Rattle.rt_base.specs.declared.id.TaskId.{TaskId}
 use Rattle.rt_base.specs.declared.id.Cpu.{Cpu}
 use Rattle.rt_base.specs.declared.kind.Kind.{Kind}
-use Rattle.rt_base.specs.declared.kind.Kind.TheVariants.{Mutex}
+use Rattle.rt_base.specs.declared.kind.Kind.TheVariants.{Mutex, RwLock, RwSem}
 use Rattle.rt_base.specs.declared.state.TaskState.{TaskState}
 use Rattle.rt_model.specs.declared.hold.Hold.{Hold}
 use Rattle.rt_model.specs.declared.phase.Phase.{Phase}
@@ -69,6 +69,12 @@ kind_of thread l = unwrap_or (slice_get thread.kinds l.0) Mutex
 abbrev pub kind_named : ThreadPart → Option LockId → Kind
 kind_named thread None = Mutex
 kind_named thread (Some l) = kind_of thread l
+
+-- the reader/writer kinds: such a lock has a reader part beside its owner part, which is its inner lock
+abbrev pub has_readers : Kind → Bool
+has_readers RwLock = true
+has_readers RwSem = true
+has_readers _ = false
 
 -- what these holds of locks of these kinds count together, where each counts so much
 abbrev pub count_holds : (Kind → Hold → ℕ) → List Kind → List Hold → ℕ

@@ -1,8 +1,8 @@
 -- How far the machine goes so far: which scripts are played, and which calls and phases occur in their states.
-use Rattle.std.specs.Prelude.{◌≡◌, ◌≢◌, ◌⊎◌, ℕ, ◌<◌, ◌≤◌, Bool, true, false, List, length, All, Option, Some, slice_get}
+use Rattle.std.specs.Prelude.{◌≡◌, ◌≢◌, ◌⊎◌, ℕ, ◌<◌, ◌≤◌, Bool, true, false, List, length, All, Option, Some, option_map, slice_get}
 use Rattle.rt_base.specs.Script.{Script, TaskLine, LockLine}
 use Rattle.rt_base.specs.declared.call.Call.{Call}
-use Rattle.rt_base.specs.declared.call.Call.TheVariants.{Lock, LockInt, TryLock, Unlock, Spin, TrySpin, Unspin, State as SetState, Schedule, Wake, Signal, SetPrio}
+use Rattle.rt_base.specs.declared.call.Call.TheVariants.{Lock, LockInt, TryLock, Unlock, Spin, TrySpin, Unspin, Read, TryRead, Unread, Write, TryWrite, Unwrite, Downgrade, State as SetState, Schedule, Wake, Signal, SetPrio}
 use Rattle.rt_base.specs.declared.kind.Kind.{Kind}
 use Rattle.rt_base.specs.declared.kind.Kind.TheVariants as kinds
 use Rattle.rt_base.specs.declared.limits.TheConstants.{MAX_PRIO}
@@ -12,13 +12,12 @@ use Rattle.rt_base.specs.declared.state.TaskState.TheVariants.{LockWait}
 use Rattle.rt_model.specs.declared.phase.Phase.{Phase}
 use Rattle.rt_model.specs.declared.phase.Phase.TheVariants as phases
 use Rattle.rt_model.specs.declared.phase.Route.TheVariants.{Full, Short}
-use Rattle.rt_model.specs.Parts.{ThreadPart}
+use Rattle.rt_model.specs.Parts.{ThreadPart, has_readers}
 use Rattle.rt_model.specs.State.{State}
 
 -- ---- scripts
 
--- the call takes or releases a mutex or a spinlock, sets a state or gives the processor up, wakes or signals a task, or sets a
--- priority
+-- the call is any but those of local locks and `move`
 abbrev pub IsPlayed : Call → Type 0
 IsPlayed (Lock l) = Unit {0}
 IsPlayed (LockInt l) = Unit {0}
@@ -27,6 +26,13 @@ IsPlayed (Unlock l) = Unit {0}
 IsPlayed (Spin l) = Unit {0}
 IsPlayed (TrySpin l) = Unit {0}
 IsPlayed (Unspin l) = Unit {0}
+IsPlayed (Read l) = Unit {0}
+IsPlayed (TryRead l) = Unit {0}
+IsPlayed (Unread l) = Unit {0}
+IsPlayed (Write l) = Unit {0}
+IsPlayed (TryWrite l) = Unit {0}
+IsPlayed (Unwrite l) = Unit {0}
+IsPlayed (Downgrade l) = Unit {0}
 IsPlayed (SetState state) = Unit {0}
 IsPlayed Schedule = Unit {0}
 IsPlayed (Wake t) = Unit {0}
@@ -37,9 +43,11 @@ IsPlayed _ = ⊥
 abbrev pub IsPlayedKind : Kind → Type 0
 IsPlayedKind kinds.Mutex = Unit {0}
 IsPlayedKind kinds.Spin = Unit {0}
-IsPlayedKind _ = ⊥
+IsPlayedKind kinds.RwLock = Unit {0}
+IsPlayedKind kinds.RwSem = Unit {0}
+IsPlayedKind kinds.Local = ⊥
 
--- the script's locks are mutexes and spinlocks, and each call is played
+-- no lock of the script is a local one, and each call is played
 pub record IsPlayable (script : Script) : Type 0 where
   pub locks : All (λ (l : LockLine). IsPlayedKind l.kind) script.locks
   pub calls : All (λ (t : TaskLine). All IsPlayed t.calls) script.tasks
@@ -55,6 +63,13 @@ IsServed tasks locks (Unlock l) = l.0 < locks
 IsServed tasks locks (Spin l) = l.0 < locks
 IsServed tasks locks (TrySpin l) = l.0 < locks
 IsServed tasks locks (Unspin l) = l.0 < locks
+IsServed tasks locks (Read l) = l.0 < locks
+IsServed tasks locks (TryRead l) = l.0 < locks
+IsServed tasks locks (Unread l) = l.0 < locks
+IsServed tasks locks (Write l) = l.0 < locks
+IsServed tasks locks (TryWrite l) = l.0 < locks
+IsServed tasks locks (Unwrite l) = l.0 < locks
+IsServed tasks locks (Downgrade l) = l.0 < locks
 IsServed tasks locks (SetState state) = state ≢ LockWait
 IsServed tasks locks Schedule = Unit {0}
 IsServed tasks locks (Wake t) = t.0 < tasks
@@ -62,7 +77,11 @@ IsServed tasks locks (Signal t) = t.0 < tasks
 IsServed tasks locks (SetPrio t prio) = (t.0 < tasks) × (prio ≤ MAX_PRIO)
 IsServed tasks locks _ = ⊥
 
--- the call is one that its lock's kind has; so far of mutexes and spinlocks
+-- the lock of this number is of a reader/writer kind
+abbrev pub HasReadersAt : List Kind → ℕ → Type 0
+HasReadersAt all l = option_map has_readers (slice_get all l) ≡ Some true
+
+-- the call is one that its lock's kind has; so far of all kinds but local
 abbrev pub IsForKind : List Kind → Call → Type 0
 IsForKind all (Lock l) = slice_get all l.0 ≡ Some kinds.Mutex
 IsForKind all (LockInt l) = slice_get all l.0 ≡ Some kinds.Mutex
@@ -71,6 +90,13 @@ IsForKind all (Unlock l) = slice_get all l.0 ≡ Some kinds.Mutex
 IsForKind all (Spin l) = slice_get all l.0 ≡ Some kinds.Spin
 IsForKind all (TrySpin l) = slice_get all l.0 ≡ Some kinds.Spin
 IsForKind all (Unspin l) = slice_get all l.0 ≡ Some kinds.Spin
+IsForKind all (Read l) = HasReadersAt all l.0
+IsForKind all (TryRead l) = HasReadersAt all l.0
+IsForKind all (Unread l) = HasReadersAt all l.0
+IsForKind all (Write l) = HasReadersAt all l.0
+IsForKind all (TryWrite l) = HasReadersAt all l.0
+IsForKind all (Unwrite l) = HasReadersAt all l.0
+IsForKind all (Downgrade l) = HasReadersAt all l.0
 IsForKind all _ = Unit {0}
 
 -- each call is served, and is for its lock's kind
@@ -78,27 +104,65 @@ pub record IsStaged (s : State) : Type 0 where
   pub served : All (λ (thread : ThreadPart). All (IsServed (length s.threads) (length s.locks)) thread.calls) s.threads
   pub fit : All (λ (thread : ThreadPart). All (IsForKind thread.kinds) thread.calls) s.threads
 
--- a call that waits where it may not have its lock at once
+-- a call that waits where it may not have its lock's owner part at once
 abbrev pub waits : Call → Bool
 waits (Lock l) = true
 waits (LockInt l) = true
 waits (Spin l) = true
+waits (Read l) = true
+waits (Write l) = true
 waits _ = false
+
+-- a call that reads and waits, one that waits to write, and one that writes, which may also only try
+abbrev pub reads : Call → Bool
+reads (Read l) = true
+reads _ = false
+
+abbrev pub waits_to_write : Call → Bool
+waits_to_write (Write l) = true
+waits_to_write _ = false
+
+abbrev pub writes : Call → Bool
+writes (Write l) = true
+writes (TryWrite l) = true
+writes _ = false
+
+-- a call that ends with the release of an inner lock, and one that ends a read
+abbrev pub ends_with_release : Call → Bool
+ends_with_release (Read l) = true
+ends_with_release (TryWrite l) = true
+ends_with_release (Unwrite l) = true
+ends_with_release (Downgrade l) = true
+ends_with_release _ = false
+
+abbrev pub ends_read : Call → Bool
+ends_read (Unread l) = true
+ends_read _ = false
 
 -- the answers that are still to come while a call makes its short walk
 abbrev pub IsToCome : Call → Reply → Type 0
 IsToCome (Lock l) answer = answer ≡ Deadlock
 IsToCome (LockInt l) answer = (answer ≡ Deadlock) ⊎ (answer ≡ Interrupted)
 IsToCome (Spin l) answer = answer ≡ Deadlock
+IsToCome (Read l) answer = answer ≡ Deadlock
+IsToCome (Write l) answer = answer ≡ Deadlock
 IsToCome (SetPrio t prio) answer = answer ≡ Done
 IsToCome _ answer = ⊥
 
--- the calls in which a phase can stand: a full walk in one that waits, a short one before such an answer
+-- the calls in which a phase can stand: a full walk in one that waits, a short one before such an answer, and what a reader or a
+-- writer does in one of its own
 abbrev pub IsPhaseOf : Phase → Option Call → Type 0
 IsPhaseOf phases.Start call = Unit {0}
+IsPhaseOf phases.Inner (Some call) = reads call ≡ true
 IsPhaseOf phases.Slow (Some call) = waits call ≡ true
 IsPhaseOf phases.Wait (Some call) = waits call ≡ true
 IsPhaseOf (phases.Walk cursor (Full path)) (Some call) = waits call ≡ true
 IsPhaseOf (phases.Walk cursor (Short answer)) (Some call) = IsToCome call answer
 IsPhaseOf (phases.Confirm path) (Some call) = waits call ≡ true
+IsPhaseOf phases.ReadIn (Some call) = reads call ≡ true
+IsPhaseOf phases.Unbias (Some call) = writes call ≡ true
+IsPhaseOf phases.WTry (Some call) = writes call ≡ true
+IsPhaseOf phases.WWait (Some call) = waits_to_write call ≡ true
+IsPhaseOf phases.Release (Some call) = ends_with_release call ≡ true
+IsPhaseOf phases.WakeWriter (Some call) = ends_read call ≡ true
 IsPhaseOf _ call = ⊥

@@ -3,11 +3,13 @@ pub mod Shape
 pub mod Phases
 pub mod Rows
 pub mod Owners
+pub mod Readers
 pub mod Migration
 pub mod KeptTops
 pub mod Queued
 pub mod States
 pub mod AwakeTop
+pub mod WokenWriter
 pub mod Keys
 pub mod Walks
 pub mod OwnPriorities

@@ -35,8 +35,8 @@ wait_event t l lock task owner = record (bare t kinds.Wait) {
   boost = owner_boost l (queued t (effective_of task) lock) lock.owner owner;
 }
 
-abbrev pub slow_event : TaskId → LockId → Kind → OwnerPart → TaskPart → TaskPart → Event
-slow_event t l kind lock task owner = take_or (wait_event t l lock task owner) t l kind lock task
+abbrev pub slow_event : Option Call → TaskId → LockId → Kind → OwnerPart → TaskPart → TaskPart → Event
+slow_event call t l kind lock task owner = take_or (wait_event t l lock task owner) call t l kind lock task
 
 -- a task that has been queued waits; where the lock's owner is itself blocked, a walk starts from there
 abbrev pub phase_after_wait : TaskId → Option LockId → Option TaskId → Bool → Phase
@@ -110,7 +110,7 @@ abbrev pub refused_event : Option Call → TaskId → LockId → OwnerPart → T
 refused_event call t l lock task owner = if is_interrupted call task then leave_event t l lock owner else again_event t l
 
 abbrev pub awake_event : Option Call → TaskId → LockId → Kind → OwnerPart → TaskPart → TaskPart → Event
-awake_event call t l kind lock task owner = take_or (refused_event call t l lock task owner) t l kind lock task
+awake_event call t l kind lock task owner = take_or (refused_event call t l lock task owner) call t l kind lock task
 
 abbrev pub queued_event : Option Call → TaskId → LockId → Kind → OwnerPart → TaskPart → TaskPart → Option Event
 queued_event call t l kind lock task owner = if is_awake call task then Some (awake_event call t l kind lock task owner) else None

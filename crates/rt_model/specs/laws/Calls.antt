@@ -18,11 +18,28 @@ use Rattle.rt_model.specs.State.{State, start, task_part, thread_part}
 use Rattle.rt_model.specs.Run.{after, ended_of}
 use Rattle.rt_model.specs.laws.Keys.{StandsAt}
 
--- a call that waits for a lock can have an event of this kind with this answer
+-- the two answers are one, of those that a release gives
+abbrev pub is_reply : Reply → Reply → Bool
+is_reply replies.Got replies.Got = true
+is_reply replies.Busy replies.Busy = true
+is_reply replies.Done replies.Done = true
+is_reply _ _ = false
+
+-- a call that is answered once it has its lock's owner part can have an event of this kind with this answer, to get it
+abbrev pub can_have_got : EventKind → Option Reply → Bool
+can_have_got kinds.Fast (Some replies.Got) = true
+can_have_got kinds.Take (Some replies.Got) = true
+can_have_got _ _ = false
+
+-- one that goes on at the reader part then can have these
+abbrev pub can_have_inner : EventKind → Option Reply → Bool
+can_have_inner kinds.Fast None = true
+can_have_inner kinds.Take None = true
+can_have_inner _ _ = false
+
+-- one that waits for an owner part can have these besides
 abbrev pub can_have_waiting : EventKind → Option Reply → Bool
-can_have_waiting kinds.Fast (Some replies.Got) = true
 can_have_waiting kinds.Mark None = true
-can_have_waiting kinds.Take (Some replies.Got) = true
 can_have_waiting kinds.Wait None = true
 can_have_waiting kinds.Again None = true
 can_have_waiting kinds.Walk None = true
@@ -48,33 +65,75 @@ abbrev pub can_have_nested : EventKind → Option Reply → Bool
 can_have_nested kinds.Own (Some replies.Nesting) = true
 can_have_nested _ _ = false
 
--- one that tries, one that releases, and one that wakes or signals can have these
+-- one that tries besides these
 abbrev pub can_have_trying : EventKind → Option Reply → Bool
-can_have_trying kinds.Fast (Some replies.Got) = true
-can_have_trying kinds.Take (Some replies.Got) = true
 can_have_trying kinds.Busy (Some replies.Busy) = true
 can_have_trying _ _ = false
 
-abbrev pub can_have_releasing : EventKind → Option Reply → Bool
-can_have_releasing kinds.Free (Some replies.Done) = true
-can_have_releasing kinds.Give (Some replies.Done) = true
-can_have_releasing kinds.Own (Some replies.NotOwner) = true
-can_have_releasing _ _ = false
+-- one that releases an owner part, with this answer, these
+abbrev pub can_have_release : Reply → EventKind → Option Reply → Bool
+can_have_release answer kinds.Free (Some reply) = is_reply answer reply
+can_have_release answer kinds.Give (Some reply) = is_reply answer reply
+can_have_release answer _ _ = false
+
+-- and one that is for a hold is refused without it
+abbrev pub can_have_refusal : EventKind → Option Reply → Bool
+can_have_refusal kinds.Own (Some replies.NotOwner) = true
+can_have_refusal _ _ = false
+
+-- a reader, one that tries, one that leaves, a writer that waits or tries, and one that leaves can have these at the reader part
+abbrev pub can_have_reading : EventKind → Option Reply → Bool
+can_have_reading kinds.RIn (Some replies.Got) = true
+can_have_reading kinds.Busy None = true
+can_have_reading kinds.RIn None = true
+can_have_reading _ _ = false
+
+abbrev pub can_have_reading_once : EventKind → Option Reply → Bool
+can_have_reading_once kinds.RIn (Some replies.Got) = true
+can_have_reading_once _ _ = false
+
+abbrev pub can_have_unreading : EventKind → Option Reply → Bool
+can_have_unreading kinds.ROut None = true
+can_have_unreading kinds.ROut (Some replies.Done) = true
+can_have_unreading kinds.WWake (Some replies.Done) = true
+can_have_unreading _ _ = false
+
+abbrev pub can_have_writing : EventKind → Option Reply → Bool
+can_have_writing kinds.Unbias None = true
+can_have_writing kinds.WTake (Some replies.Got) = true
+can_have_writing _ _ = false
+
+abbrev pub can_have_sleeping : EventKind → Option Reply → Bool
+can_have_sleeping kinds.WSleep None = true
+can_have_sleeping _ _ = false
+
+abbrev pub can_have_opening : EventKind → Option Reply → Bool
+can_have_opening kinds.WOpen None = true
+can_have_opening _ _ = false
+
+-- and one that wakes or signals
 
 abbrev pub can_have_waking : EventKind → Option Reply → Bool
 can_have_waking kinds.Wake (Some replies.Woke) = true
 can_have_waking kinds.Wake (Some replies.Missed) = true
 can_have_waking _ _ = false
 
--- the call can have an event of this kind with this answer; so far of the calls that are played
+-- the call can have an event of this kind with this answer; so far of all calls but those of local locks and `move`
 abbrev pub can_have : Call → EventKind → Option Reply → Bool
-can_have (calls.Lock l) kind reply = can_have_waiting kind reply || can_have_nested kind reply
-can_have (calls.LockInt l) kind reply = can_have_waiting kind reply || can_have_nested kind reply || can_have_signalled kind reply
-can_have (calls.TryLock l) kind reply = can_have_trying kind reply
-can_have (calls.Unlock l) kind reply = can_have_releasing kind reply
-can_have (calls.Spin l) kind reply = can_have_waiting kind reply
-can_have (calls.TrySpin l) kind reply = can_have_trying kind reply
-can_have (calls.Unspin l) kind reply = can_have_releasing kind reply
+can_have (calls.Lock l) kind reply = can_have_got kind reply || can_have_waiting kind reply || can_have_nested kind reply
+can_have (calls.LockInt l) kind reply = can_have_got kind reply || can_have_waiting kind reply || can_have_nested kind reply || can_have_signalled kind reply
+can_have (calls.TryLock l) kind reply = can_have_got kind reply || can_have_trying kind reply
+can_have (calls.Unlock l) kind reply = can_have_release replies.Done kind reply || can_have_refusal kind reply
+can_have (calls.Spin l) kind reply = can_have_got kind reply || can_have_waiting kind reply
+can_have (calls.TrySpin l) kind reply = can_have_got kind reply || can_have_trying kind reply
+can_have (calls.Unspin l) kind reply = can_have_release replies.Done kind reply || can_have_refusal kind reply
+can_have (calls.Read l) kind reply = can_have_reading kind reply || can_have_inner kind reply || can_have_waiting kind reply || can_have_nested kind reply || can_have_release replies.Got kind reply
+can_have (calls.TryRead l) kind reply = can_have_reading_once kind reply || can_have_trying kind reply
+can_have (calls.Unread l) kind reply = can_have_unreading kind reply || can_have_refusal kind reply
+can_have (calls.Write l) kind reply = can_have_inner kind reply || can_have_waiting kind reply || can_have_nested kind reply || can_have_writing kind reply || can_have_sleeping kind reply
+can_have (calls.TryWrite l) kind reply = can_have_inner kind reply || can_have_trying kind reply || can_have_writing kind reply || can_have_opening kind reply || can_have_release replies.Busy kind reply
+can_have (calls.Unwrite l) kind reply = can_have_opening kind reply || can_have_release replies.Done kind reply || can_have_refusal kind reply
+can_have (calls.Downgrade l) kind reply = can_have_opening kind reply || can_have_release replies.Done kind reply || can_have_refusal kind reply
 can_have (calls.State state) kinds.State (Some replies.Done) = true
 can_have calls.Schedule kinds.Sched (Some replies.Done) = true
 can_have calls.Schedule kind reply = can_have_nested kind reply
@@ -100,13 +159,21 @@ called_number (calls.Signal t) = 1
 called_number (calls.SetPrio t prio) = prio
 called_number call = 0
 
+-- the number of an event of this kind: 1 where a call finds the reader part shut to it, and where a writer stays as a reader; else
+-- what its call names
+abbrev pub number_in : EventKind → Call → ℕ
+number_in kinds.Busy (calls.Read l) = 1
+number_in kinds.Busy (calls.TryRead l) = 1
+number_in kinds.WOpen (calls.Downgrade l) = 1
+number_in kind call = called_number call
+
 -- an event of this kind names what its call names, but those of a walk, of which a walk and a restart name a lock and a task, and
 -- a walk's end a task alone
 abbrev pub NamesFor : EventKind → Cpu → Call → Event → Type 0
 NamesFor kinds.Walk cpu call e = IsSome e.lock × IsSome e.other × (e.value ≡ 0)
 NamesFor kinds.Restart cpu call e = IsSome e.lock × IsSome e.other × (e.value ≡ 0)
 NamesFor kinds.WalkEnd cpu call e = (e.lock ≡ None) × IsSome e.other × (e.value ≡ 0)
-NamesFor kind cpu call e = (e.lock ≡ called_lock cpu call) × (e.other ≡ called_task call) × (e.value ≡ called_number call)
+NamesFor kind cpu call e = (e.lock ≡ called_lock cpu call) × (e.other ≡ called_task call) × (e.value ≡ number_in kind call)
 
 -- the event is one of the call, of a task on this processor
 pub record IsOfCall (cpu : Cpu) (call : Call) (e : Event) : Type 0 where

@@ -19,28 +19,30 @@ use Rattle.rt_model.specs.laws.Owners.{owned_by}
 
 -- ---- what its own events tell of a task
 
--- how many of its calls are answered, and whether it is queued in the present one
+-- how many of its calls are answered, and whether it waits in the present one: queued, or as a writer asleep for readers
 pub record Seen : Type 0 where
   pub answered : ℕ
-  pub queued : Bool
+  pub waiting : Bool
 
 abbrev pub first_seen : Seen
-first_seen = record { answered = 0; queued = false }
+first_seen = record { answered = 0; waiting = false }
 
 abbrev pub count_answer : ℕ → Option Reply → ℕ
 count_answer n None = n
 count_answer n (Some answer) = n + 1
 
--- it is queued from a `wait` on, until it takes the lock or leaves the queue
-abbrev pub queued_after : EventKind → Bool → Bool
-queued_after kinds.Wait queued = true
-queued_after kinds.Take queued = false
-queued_after kinds.Leave queued = false
-queued_after kinds.Cycle queued = false
-queued_after kind queued = queued
+-- it waits from a `wait` or a `wsleep` on, until it takes the lock or leaves the queue
+abbrev pub waiting_after : EventKind → Bool → Bool
+waiting_after kinds.Wait waiting = true
+waiting_after kinds.Take waiting = false
+waiting_after kinds.Leave waiting = false
+waiting_after kinds.Cycle waiting = false
+waiting_after kinds.WSleep waiting = true
+waiting_after kinds.WTake waiting = false
+waiting_after kind waiting = waiting
 
 abbrev pub seen_after : Event → Seen → Seen
-seen_after e seen = record { answered = count_answer seen.answered e.reply; queued = queued_after e.kind seen.queued }
+seen_after e seen = record { answered = count_answer seen.answered e.reply; waiting = waiting_after e.kind seen.waiting }
 
 -- the call that a task is at then
 abbrev pub call_at : Script → TaskId → Seen → Option Call
@@ -79,15 +81,16 @@ abbrev pub is_ordinary : Script → Option LockId → Bool
 is_ordinary script None = false
 is_ordinary script (Some l) = not (spins (lock_line script l).kind)
 
--- an event at a lock of a kind that doesn't spin puts its task to sleep, as this call does, and lets it run again where it was queued;
--- so far at the owner parts of locks alone
+-- an event at a lock of a kind that doesn't spin puts its task to sleep, as this call does, and lets it run again where it waited
 abbrev pub own_at_lock : EventKind → Option Call → Bool → Flat → Flat
-own_at_lock kinds.Wait call queued flat = record flat { state = sleep_of call }
-own_at_lock kinds.Again call queued flat = record flat { state = sleep_of call }
-own_at_lock kinds.Take call queued flat = if queued then record flat { state = Running } else flat
-own_at_lock kinds.Leave call queued flat = record flat { state = Running }
-own_at_lock kinds.Cycle call queued flat = record flat { state = Running }
-own_at_lock kind call queued flat = flat
+own_at_lock kinds.Wait call waiting flat = record flat { state = sleep_of call }
+own_at_lock kinds.Again call waiting flat = record flat { state = sleep_of call }
+own_at_lock kinds.Take call waiting flat = if waiting then record flat { state = Running } else flat
+own_at_lock kinds.Leave call waiting flat = record flat { state = Running }
+own_at_lock kinds.Cycle call waiting flat = record flat { state = Running }
+own_at_lock kinds.WSleep call waiting flat = record flat { state = sleep_of call }
+own_at_lock kinds.WTake call waiting flat = if waiting then record flat { state = Running } else flat
+own_at_lock kind call waiting flat = flat
 
 -- an event of the task itself, of this kind: it sets its state, goes on, or takes its signal
 abbrev pub own_by_kind : EventKind → ℕ → Flat → Flat
@@ -98,7 +101,7 @@ own_by_kind kind value flat = flat
 
 abbrev pub flat_own : Script → TaskId → Seen → Event → Flat → Flat
 flat_own script t seen e flat =
-    let at_lock = if is_ordinary script e.lock then own_at_lock e.kind (call_at script t seen) seen.queued flat else flat in
+    let at_lock = if is_ordinary script e.lock then own_at_lock e.kind (call_at script t seen) seen.waiting flat else flat in
     own_by_kind e.kind e.value at_lock
 
 -- an event wakes the task, where its lock is of a kind that doesn't spin

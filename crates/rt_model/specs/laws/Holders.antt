@@ -1,13 +1,29 @@
--- Who owns each lock, read off a list of events alone.
-use Rattle.std.specs.Prelude.{◌≡◌, Bool, true, false, List, ◌∷◌, ◌++◌, Option, Some, None, nat_eq, if◌then◌else◌}
+-- Who owns each lock, writes it and reads it, read off a list of events alone.
+use Rattle.std.specs.Prelude.{◌≡◌, ℕ, ◌+◌, ◌-◌, ◌<◌, Bool, true, false, List, ◌∷◌, ◌++◌, Option, Some, None, IfSome, nat_eq, if◌then◌else◌}
 use Rattle.std.specs.List.{fold}
 use Rattle.rt_base.specs.declared.id.LockId.{LockId}
 use Rattle.rt_base.specs.declared.id.TaskId.{TaskId}
+use Rattle.rt_base.specs.declared.kind.Kind.{Kind}
 use Rattle.rt_model.specs.declared.event.Event.{Event}
 use Rattle.rt_model.specs.declared.event_kind.EventKind.{EventKind}
 use Rattle.rt_model.specs.declared.event_kind.EventKind.TheVariants as kinds
-use Rattle.rt_model.specs.State.{State, owner_part}
+use Rattle.rt_model.specs.Parts.{has_readers}
+use Rattle.rt_model.specs.Choice.{is_on}
+use Rattle.rt_model.specs.State.{State, owner_part, reader_part}
 use Rattle.rt_model.specs.Run.{after}
+
+-- the owner of a lock, which of a reader/writer lock is the owner of its inner lock; its writer; and how many readers are in
+pub record Held : Type 0 where
+  pub owner : Option TaskId
+  pub writer : Option TaskId
+  pub readers : ℕ
+
+abbrev pub nobody : Held
+nobody = record { owner = None; writer = None; readers = 0 }
+
+-- who holds a lock of this kind alone: the writer of a reader/writer lock, and the owner of any other
+abbrev pub holder_of : Kind → Held → Option TaskId
+holder_of kind held = if has_readers kind then held.writer else held.owner
 
 -- an event of this kind makes its task the owner
 abbrev pub acquires : EventKind → Bool
@@ -21,22 +37,44 @@ releases kinds.Free = true
 releases kinds.Give = true
 releases _ = false
 
--- the owner of the event's lock after the event
-abbrev pub owner_after : Event → Option TaskId → Option TaskId
-owner_after e owner = if acquires e.kind then Some e.task else if releases e.kind then None else owner
+-- what an event of this kind makes of it, at its lock: the number 1 tells a downgrade
+abbrev pub held_after : EventKind → Event → Held → Held
+held_after kinds.Fast e held = record held { owner = Some e.task }
+held_after kinds.Take e held = record held { owner = Some e.task }
+held_after kinds.Free e held = record held { owner = None }
+held_after kinds.Give e held = record held { owner = None }
+held_after kinds.RIn e held = record held { readers = held.readers + 1 }
+held_after kinds.ROut e held = record held { readers = held.readers - 1 }
+held_after kinds.WTake e held = record held { writer = Some e.task }
+held_after kinds.WOpen e held = record held { writer = None; readers = if nat_eq e.value 1 then held.readers + 1 else held.readers }
+held_after kind e held = held
 
--- the event is on the lock
-abbrev pub is_on : Option LockId → LockId → Bool
-is_on None l = false
-is_on (Some m) l = nat_eq m.0 l.0
+-- who has a lock after these events, from nobody on
+abbrev pub holders_of : List Event → LockId → Held
+holders_of events l = fold (λ held e. if is_on e.lock l then held_after e.kind e held else held) nobody events
 
--- the owner of a lock after these events, from no owner on
-abbrev pub holders_of : List Event → LockId → Option TaskId
-holders_of events l = fold (λ owner e. if is_on e.lock l then owner_after e owner else owner) None events
+-- who has a lock in a state: where a writer is in, it is the owner
+abbrev pub held_in : State → LockId → Held
+held_in s l = record {
+  owner = (owner_part s l).owner;
+  writer = if (reader_part s l).writer then (owner_part s l).owner else None;
+  readers = (reader_part s l).count;
+}
 
--- after each prefix of the events the holder by the events is the owner in the state; no event makes its task the owner
--- of a lock that has one, and none but the holder leaves a lock without owner
+-- the lock has a writer that owns it, with no reader beside it, or none
+abbrev pub IsExclusive : Held → Type 0
+IsExclusive held = IfSome held.writer (λ t. (held.owner ≡ Some t) × (held.readers ≡ 0))
+
+-- after each prefix of the events who has a lock by the events has it in the state, and no writer is beside a reader; no event makes
+-- its task the owner of a lock that has one, and none but the owner leaves a lock without owner; no reader gets in where a writer
+-- is, and none gets out where none is in; who gets in to write owns the inner lock, with no reader and no writer in; and who opens
+-- it to readers owns it
 pub record HoldersLaw (s : State) (events : List Event) : Type 0 where
-  pub told : (prefix rest : List Event) (l : LockId) → prefix ++ rest ≡ events → holders_of prefix l ≡ (owner_part (after s prefix) l).owner
-  pub alone : (prefix rest : List Event) (e : Event) (l : LockId) → prefix ++ e ∷ rest ≡ events → e.lock ≡ Some l → acquires e.kind ≡ true → holders_of prefix l ≡ None
-  pub own : (prefix rest : List Event) (e : Event) (l : LockId) → prefix ++ e ∷ rest ≡ events → e.lock ≡ Some l → releases e.kind ≡ true → holders_of prefix l ≡ Some e.task
+  pub told : (prefix rest : List Event) (l : LockId) → prefix ++ rest ≡ events → holders_of prefix l ≡ held_in (after s prefix) l
+  pub exclusive : (prefix rest : List Event) (l : LockId) → prefix ++ rest ≡ events → IsExclusive (holders_of prefix l)
+  pub alone : (prefix rest : List Event) (e : Event) (l : LockId) → prefix ++ e ∷ rest ≡ events → e.lock ≡ Some l → acquires e.kind ≡ true → (holders_of prefix l).owner ≡ None
+  pub own : (prefix rest : List Event) (e : Event) (l : LockId) → prefix ++ e ∷ rest ≡ events → e.lock ≡ Some l → releases e.kind ≡ true → (holders_of prefix l).owner ≡ Some e.task
+  pub reads : (prefix rest : List Event) (e : Event) (l : LockId) → prefix ++ e ∷ rest ≡ events → e.lock ≡ Some l → e.kind ≡ kinds.RIn → (holders_of prefix l).writer ≡ None
+  pub leaves : (prefix rest : List Event) (e : Event) (l : LockId) → prefix ++ e ∷ rest ≡ events → e.lock ≡ Some l → e.kind ≡ kinds.ROut → 0 < (holders_of prefix l).readers
+  pub writes : (prefix rest : List Event) (e : Event) (l : LockId) → prefix ++ e ∷ rest ≡ events → e.lock ≡ Some l → e.kind ≡ kinds.WTake → holders_of prefix l ≡ record { owner = Some e.task; writer = None; readers = 0 }
+  pub opens : (prefix rest : List Event) (e : Event) (l : LockId) → prefix ++ e ∷ rest ≡ events → e.lock ≡ Some l → e.kind ≡ kinds.WOpen → (holders_of prefix l).owner ≡ Some e.task

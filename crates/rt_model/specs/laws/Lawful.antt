@@ -6,10 +6,12 @@ use Rattle.rt_model.specs.laws.Shape.{IsShaped}
 use Rattle.rt_model.specs.laws.Phases.{PhasesLaw}
 use Rattle.rt_model.specs.laws.Rows.{RowsLaw}
 use Rattle.rt_model.specs.laws.Owners.{OwnersLaw}
+use Rattle.rt_model.specs.laws.Readers.{ReadersLaw}
 use Rattle.rt_model.specs.laws.Migration.{MigrationLaw}
 use Rattle.rt_model.specs.laws.KeptTops.{KeptTopsLaw}
 use Rattle.rt_model.specs.laws.Queued.{QueuedLaw}
 use Rattle.rt_model.specs.laws.States.{StatesLaw}
+use Rattle.rt_model.specs.laws.WokenWriter.{WokenWriterLaw}
 use Rattle.rt_model.specs.laws.AwakeTop.{AwakeTopLaw}
 use Rattle.rt_model.specs.laws.Keys.{KeysLaw}
 use Rattle.rt_model.specs.laws.Walks.{WalksLaw}
@@ -25,9 +27,11 @@ pub record IsLawful (s : State) (made : ℕ) : Type 0 where
   pub kept : KeptTopsLaw s
   pub queued : QueuedLaw s
   pub owners : OwnersLaw s
+  pub readers : ReadersLaw s
   pub migration : MigrationLaw s
   pub states : StatesLaw s
   pub awake : AwakeTopLaw s
+  pub woken : WokenWriterLaw s
   pub keys : KeysLaw s
   pub walks : WalksLaw s
   pub priorities : OwnPrioritiesLaw s

@@ -1,18 +1,13 @@
 -- Queued law.
-use Rattle.std.specs.Prelude.{◌≡◌, ℕ, false, Option, None, IfSome, option_map, option_and_then}
+use Rattle.std.specs.Prelude.{◌≡◌, ℕ, false, Option, None, IfSome, option_map}
 use Rattle.rt_base.specs.declared.id.LockId.{LockId}
 use Rattle.rt_base.specs.declared.id.TaskId.{TaskId}
 use Rattle.rt_model.specs.declared.phase.Phase.{Phase}
 use Rattle.rt_model.specs.declared.phase.Phase.TheVariants as phases
 use Rattle.rt_model.specs.declared.phase.Route.TheVariants as routes
-use Rattle.rt_model.specs.Parts.{ThreadPart, call_of}
-use Rattle.rt_model.specs.Choice.{called_lock}
+use Rattle.rt_model.specs.Choice.{present_lock}
 use Rattle.rt_model.specs.State.{State, owner_part, task_part, thread_part}
 use Rattle.rt_model.specs.laws.Owners.{owned_by}
-
--- the lock that a thread's present call is about
-abbrev pub present_lock : ThreadPart → Option LockId
-present_lock thread = option_and_then (called_lock thread.cpu) (call_of thread)
 
 -- the lock for which a thread waits in this phase: queued, on a full walk, or before it is confirmed
 abbrev pub awaited_in : Phase → Option LockId → Option LockId

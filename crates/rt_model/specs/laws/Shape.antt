@@ -1,5 +1,5 @@
 -- The shape of a state: its lists fit together, and what it looks up is there.
-use Rattle.std.specs.Prelude.{◌≡◌, ℕ, ◌<◌, ◌≤◌, List, length, map, All, IfSome}
+use Rattle.std.specs.Prelude.{◌≡◌, ℕ, ◌<◌, ◌≤◌, List, length, map, sum, All, IfSome}
 use Rattle.rt_base.specs.Script.{Script, TaskLine}
 use Rattle.rt_base.specs.declared.call.Call.{Call}
 use Rattle.rt_base.specs.declared.kind.Kind.{Kind}
@@ -16,10 +16,15 @@ pub record IsThread (calls : List Call) (answered tasks locks : ℕ) : Type 0 wh
   pub few : length calls ≤ MAX_CALLS
   pub served : All (IsServed tasks locks) calls
 
+-- how many calls the threads make together
+abbrev pub calls_of : List ThreadPart → ℕ
+calls_of threads = sum (map (λ (thread : ThreadPart). length thread.calls) threads)
+
 -- the lists of the state fit together, and each thread knows the same kinds of locks
 pub record IsShaped (s : State) : Type 0 where
   pub few_tasks : length s.threads ≤ MAX_TASKS
   pub few_locks : length s.locks ≤ MAX_LOCKS
+  pub few_calls : calls_of s.threads ≤ MAX_CALLS
   pub readers : length s.readers ≡ length s.locks
   pub tasks : length s.tasks ≡ length s.threads
   pub kept : All (λ (task : TaskPart). length task.kept ≡ length s.locks) s.tasks

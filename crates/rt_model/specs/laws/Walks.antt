@@ -6,7 +6,7 @@ use Rattle.rt_model.specs.declared.phase.Phase.{Phase}
 use Rattle.rt_model.specs.declared.phase.Phase.TheVariants.{Walk, Confirm}
 use Rattle.rt_model.specs.declared.phase.Route.TheVariants.{Full, Short}
 use Rattle.rt_model.specs.State.{State, thread_part}
-use Rattle.rt_model.specs.laws.Queued.{present_lock}
+use Rattle.rt_model.specs.Choice.{present_lock}
 
 -- the path begins with this task and this lock
 abbrev pub BeginsWith : TaskId → Option LockId → List (ℕ × ℕ) → Type 0

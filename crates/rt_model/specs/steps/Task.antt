@@ -48,6 +48,14 @@ saved_for rest task = task
 abbrev pub blocked_on : Option LockId → TaskState → TaskPart → TaskPart
 blocked_on l rest task = record (saved_for rest task) { blocked = option_map (λ (m : LockId). (m, effective_of task)) l; state = rest }
 
+-- the task goes to rest, and isn't queued
+abbrev pub put_to_rest : TaskState → TaskPart → TaskPart
+put_to_rest rest task = record (saved_for rest task) { state = rest }
+
+-- it was woken, and goes to rest again: what is saved stays
+abbrev pub put_back : TaskState → TaskPart → TaskPart
+put_back rest task = record task { state = rest }
+
 -- restore: after a wait for a spinning kind the saved state comes back, and else the task runs
 abbrev pub restored : Bool → TaskPart → TaskPart
 restored spinning task = if spinning then record task { state = task.saved; saved = states.Running } else record task { state = states.Running }

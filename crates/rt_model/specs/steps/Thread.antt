@@ -3,17 +3,60 @@ use Rattle.std.specs.Prelude.{ℕ, ◌+◌, ◌-◌, Bool, true, false, List, Op
 use Rattle.rt_base.specs.declared.call.Call.{Call}
 use Rattle.rt_base.specs.declared.call.Call.TheVariants as calls
 use Rattle.rt_base.specs.declared.id.LockId.{LockId}
+use Rattle.rt_base.specs.declared.kind.Kind.{Kind}
+use Rattle.rt_base.specs.declared.kind.Kind.TheVariants.{RwLock}
 use Rattle.rt_base.specs.declared.reply.Reply.{Reply}
 use Rattle.rt_base.specs.declared.reply.Reply.TheVariants as replies
 use Rattle.rt_model.specs.declared.hold.Hold.{Hold}
-use Rattle.rt_model.specs.declared.phase.Phase.TheVariants.{Start}
-use Rattle.rt_model.specs.Parts.{ThreadPart, call_of, hold_of}
+use Rattle.rt_model.specs.declared.phase.Phase.{Phase}
+use Rattle.rt_model.specs.declared.phase.Phase.TheVariants as phases
+use Rattle.rt_model.specs.Parts.{ThreadPart, call_of, hold_of, kind_of}
+
+-- ---- an owner part is acquired, or released
+
+-- got: the acquire of an owner part is over. A reader gets in next, a writer removes the bias, and any other call is answered
+abbrev pub phase_after_got : Option Call → Phase → Phase
+phase_after_got (Some (calls.Read l)) phase = phases.ReadIn
+phase_after_got (Some (calls.Write l)) phase = phases.Unbias
+phase_after_got (Some (calls.TryWrite l)) phase = phases.Unbias
+phase_after_got call phase = phase
+
+abbrev pub got_answer : Option Call → Option Reply
+got_answer (Some (calls.Read l)) = None
+got_answer (Some (calls.Write l)) = None
+got_answer (Some (calls.TryWrite l)) = None
+got_answer call = Some replies.Got
+
+-- the release of an owner part ends a call: a reader that came in by the inner lock has what it asked for, a writer that only tried
+-- hasn't, and a releasing call is done
+abbrev pub released_answer : Option Call → Reply
+released_answer (Some (calls.Read l)) = replies.Got
+released_answer (Some (calls.TryWrite l)) = replies.Busy
+released_answer call = replies.Done
+
+-- a reader that finds a writer in goes on to the inner lock
+abbrev pub phase_after_busy : Option Call → Phase → Phase
+phase_after_busy (Some (calls.Read l)) phase = phases.Inner
+phase_after_busy call phase = phase
+
+-- ---- holds
 
 -- the thread holds the lock, or no longer does
 abbrev pub with_hold : ThreadPart → LockId → Bool → List Hold
 with_hold thread l owns = slice_set thread.holds l.0 (record (hold_of thread l) { owns = owns })
 
--- what a thread holds once its call has this answer; so far of mutexes and spinlocks
+-- it holds it for reading once more, or once less
+abbrev pub with_read : ThreadPart → LockId → List Hold
+with_read thread l = slice_set thread.holds l.0 (record (hold_of thread l) { reads = (hold_of thread l).reads + 1 })
+
+abbrev pub without_read : ThreadPart → LockId → List Hold
+without_read thread l = slice_set thread.holds l.0 (record (hold_of thread l) { reads = (hold_of thread l).reads - 1 })
+
+-- its write hold becomes a read hold
+abbrev pub downgraded : ThreadPart → LockId → List Hold
+downgraded thread l = slice_set thread.holds l.0 (record { owns = false; reads = (hold_of thread l).reads + 1 })
+
+-- what a thread holds once its call has this answer
 abbrev pub holds_after : ThreadPart → Option Call → Reply → List Hold
 holds_after thread (Some (calls.Lock l)) replies.Got = with_hold thread l true
 holds_after thread (Some (calls.LockInt l)) replies.Got = with_hold thread l true
@@ -22,22 +65,48 @@ holds_after thread (Some (calls.Unlock l)) replies.Done = with_hold thread l fal
 holds_after thread (Some (calls.Spin l)) replies.Got = with_hold thread l true
 holds_after thread (Some (calls.TrySpin l)) replies.Got = with_hold thread l true
 holds_after thread (Some (calls.Unspin l)) replies.Done = with_hold thread l false
+holds_after thread (Some (calls.Read l)) replies.Got = with_read thread l
+holds_after thread (Some (calls.TryRead l)) replies.Got = with_read thread l
+holds_after thread (Some (calls.Unread l)) replies.Done = without_read thread l
+holds_after thread (Some (calls.Write l)) replies.Got = with_hold thread l true
+holds_after thread (Some (calls.TryWrite l)) replies.Got = with_hold thread l true
+holds_after thread (Some (calls.Unwrite l)) replies.Done = with_hold thread l false
+holds_after thread (Some (calls.Downgrade l)) replies.Done = downgraded thread l
 holds_after thread call answer = thread.holds
 
--- its migration count: who has a spinlock stays on its processor (`migrate_disable` and `migrate_enable` in `rt_spin_lock` and
--- `rt_spin_unlock`)
-abbrev pub migration_after : ℕ → Option Call → Reply → ℕ
-migration_after count (Some (calls.Spin l)) replies.Got = count + 1
-migration_after count (Some (calls.TrySpin l)) replies.Got = count + 1
-migration_after count (Some (calls.Unspin l)) replies.Done = count - 1
-migration_after count call answer = count
+-- ---- migration
+
+-- a hold of an `rwlock_t` more, or less, counts one; one of an `rw_semaphore` nothing
+abbrev pub pinned_by : Kind → ℕ → ℕ
+pinned_by RwLock count = count + 1
+pinned_by _ count = count
+
+abbrev pub unpinned_by : Kind → ℕ → ℕ
+unpinned_by RwLock count = count - 1
+unpinned_by _ count = count
+
+-- a thread's migration count once its call has this answer: who has a spinlock or an `rwlock_t` stays on its processor
+-- (`migrate_disable` and `migrate_enable` in `rt_spin_lock`, `rt_read_lock`, `rt_write_lock` and their unlocks)
+abbrev pub migration_after : ThreadPart → Option Call → Reply → ℕ
+migration_after thread (Some (calls.Spin l)) replies.Got = thread.migration + 1
+migration_after thread (Some (calls.TrySpin l)) replies.Got = thread.migration + 1
+migration_after thread (Some (calls.Unspin l)) replies.Done = thread.migration - 1
+migration_after thread (Some (calls.Read l)) replies.Got = pinned_by (kind_of thread l) thread.migration
+migration_after thread (Some (calls.TryRead l)) replies.Got = pinned_by (kind_of thread l) thread.migration
+migration_after thread (Some (calls.Unread l)) replies.Done = unpinned_by (kind_of thread l) thread.migration
+migration_after thread (Some (calls.Write l)) replies.Got = pinned_by (kind_of thread l) thread.migration
+migration_after thread (Some (calls.TryWrite l)) replies.Got = pinned_by (kind_of thread l) thread.migration
+migration_after thread (Some (calls.Unwrite l)) replies.Done = unpinned_by (kind_of thread l) thread.migration
+migration_after thread call answer = thread.migration
+
+-- ---- answers
 
 -- an answer moves the thread to the start of its next call
 abbrev pub answered_with : ThreadPart → Option Reply → ThreadPart
 answered_with thread None = thread
 answered_with thread (Some answer) = record thread {
   answered = thread.answered + 1;
-  phase = Start;
+  phase = phases.Start;
   holds = holds_after thread (call_of thread) answer;
-  migration = migration_after thread.migration (call_of thread) answer;
+  migration = migration_after thread (call_of thread) answer;
 }

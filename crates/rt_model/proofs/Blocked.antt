@@ -7,7 +7,13 @@ use Rattle.rt_base.specs.declared.id.TaskId.{TaskId}
 use Rattle.rt_model.specs.declared.event.Event.{Event}
 use Rattle.rt_model.specs.declared.event_kind.EventKind.{EventKind}
 use Rattle.rt_model.specs.declared.event_kind.EventKind.TheVariants as kinds
-use Rattle.rt_model.specs.Parts.{OwnerPart, TaskPart, ThreadPart, effective_of, kind_of, kind_named}
+use Rattle.rt_base.specs.declared.state.TaskState.{TaskState}
+use Rattle.rt_base.specs.declared.state.TaskState.TheVariants as states
+use Rattle.rt_model.specs.declared.phase.Phase.{Phase}
+use Rattle.rt_model.specs.declared.phase.Phase.TheVariants as phases
+use Rattle.rt_model.specs.Parts.{OwnerPart, TaskPart, ThreadPart, effective_of, kind_of, kind_named, call_of}
+use Rattle.rt_model.specs.steps.Task.{rest_of, saved_for, restored}
+use Rattle.rt_model.specs.events.Readers.{writer_rests}
 use Rattle.rt_model.specs.State.{State, shared, owner_part, task_part, thread_part}
 use Rattle.rt_model.specs.Effect.{Around, around}
 use Rattle.rt_model.specs.Rules.{touched, effect}
@@ -35,6 +41,22 @@ abbrev pub requeues : EventKind → Bool
 requeues kinds.Walk = true
 requeues _ = false
 
+-- ---- a sleep for readers leaves what a task is blocked on
+
+restored-blocked : (spinning : Bool) (task : TaskPart) → (restored spinning task).blocked ≡ task.blocked
+restored-blocked true task = refl
+restored-blocked false task = refl
+
+saved_for-blocked : (rest : TaskState) (task : TaskPart) → (saved_for rest task).blocked ≡ task.blocked
+saved_for-blocked states.LockWait task = refl
+saved_for-blocked states.Running task = refl
+saved_for-blocked states.Interruptible task = refl
+saved_for-blocked states.Uninterruptible task = refl
+
+writer_rests-blocked : (phase : Phase) (rest : TaskState) (task : TaskPart) → (writer_rests phase rest task).blocked ≡ task.blocked
+writer_rests-blocked phases.WWait rest task = refl
+writer_rests-blocked _ rest task = saved_for-blocked rest task
+
 -- ---- told by the kind
 
 rows-left : (kind : EventKind) (e : Event) (th : ThreadPart) (found : Around) → moves kind ≡ false → (lock : OwnerPart) → ((effect kind e th found).lock lock).rows ≡ lock.rows
@@ -51,6 +73,8 @@ blocked-own b kinds.Take e th is found lock task was = cc
 blocked-own b kinds.Wait e th is found lock task was = cc
 blocked-own b kinds.Leave e th is found lock task was = cc
 blocked-own b kinds.Cycle e th is found lock task was = cc
+blocked-own b kinds.WTake e th is found lock task was = restored-blocked (spins (kind_named th e.lock)) task ∙ was
+blocked-own b kinds.WSleep e th is found lock task was = writer_rests-blocked th.phase (rest_of (kind_named th e.lock) (call_of th)) task ∙ was
 blocked-own b kinds.Give e th is found lock task was = with_top-blocked e.lock _ task ∙ was
 blocked-own b _ e th is found lock task was = was
 
@@ -60,6 +84,7 @@ blocked-others b kinds.Wait e th is found lock = record { owner = λ task was. w
 blocked-others b kinds.Leave e th is found lock = record { owner = λ task was. with_top-blocked e.lock _ task ∙ was; other = λ task was. was; woken = λ task was. was }
 blocked-others b kinds.Cycle e th is found lock = record { owner = λ task was. with_top-blocked e.lock _ task ∙ was; other = λ task was. was; woken = λ task was. was }
 blocked-others b kinds.Wake e th is found lock = record { owner = λ task was. was; other = λ task was. (woken_by-like e.value task).blocked ∙ was; woken = λ task was. was }
+blocked-others b kinds.WWake e th is found lock = record { owner = λ task was. was; other = λ task was. was; woken = λ task was. (lock_woken-like (spins (kind_named th e.lock)) task).blocked ∙ was }
 blocked-others b kinds.Give e th is found lock = record { owner = λ task was. was; other = λ task was. was; woken = λ task was. (lock_woken-like (spins (kind_named th e.lock)) task).blocked ∙ was }
 blocked-others b _ e th is found lock = record { owner = λ task was. was; other = λ task was. was; woken = λ task was. was }
 
@@ -77,6 +102,8 @@ blocking-own b kinds.Take e th is found lock task was = cc
 blocking-own b kinds.Wait e th is found lock task was = cc
 blocking-own b kinds.Leave e th is found lock task was = cc
 blocking-own b kinds.Cycle e th is found lock task was = cc
+blocking-own b kinds.WTake e th is found lock task was = ap blocking (restored-blocked (spins (kind_named th e.lock)) task) ∙ was
+blocking-own b kinds.WSleep e th is found lock task was = ap blocking (writer_rests-blocked th.phase (rest_of (kind_named th e.lock) (call_of th)) task) ∙ was
 blocking-own b kinds.Give e th is found lock task was = ap blocking (with_top-blocked e.lock _ task) ∙ was
 blocking-own b _ e th is found lock task was = was
 
@@ -90,6 +117,7 @@ blocking-others b kinds.Wait e th found lock = record { owner = λ task was. ap 
 blocking-others b kinds.Leave e th found lock = record { owner = λ task was. ap blocking (with_top-blocked e.lock _ task) ∙ was; other = λ task was. was; woken = λ task was. was }
 blocking-others b kinds.Cycle e th found lock = record { owner = λ task was. ap blocking (with_top-blocked e.lock _ task) ∙ was; other = λ task was. was; woken = λ task was. was }
 blocking-others b kinds.Wake e th found lock = record { owner = λ task was. was; other = λ task was. ap blocking (woken_by-like e.value task).blocked ∙ was; woken = λ task was. was }
+blocking-others b kinds.WWake e th found lock = record { owner = λ task was. was; other = λ task was. was; woken = λ task was. ap blocking (lock_woken-like (spins (kind_named th e.lock)) task).blocked ∙ was }
 blocking-others b kinds.Give e th found lock = record { owner = λ task was. was; other = λ task was. was; woken = λ task was. ap blocking (lock_woken-like (spins (kind_named th e.lock)) task).blocked ∙ was }
 blocking-others b _ e th found lock = record { owner = λ task was. was; other = λ task was. was; woken = λ task was. was }
 

@@ -1,5 +1,5 @@
 -- What a state says of a task that is at a call.
-use Rattle.std.proofs.Common.{◌≡◌, ◌⊎◌, inl, inr, ◌<◌, ◌≤◌, get_or, length, refl, sym, ap, ◌∙◌, subst, Option, Some, None, All}
+use Rattle.std.proofs.Common.{◌≡◌, ◌⊎◌, inl, inr, ◌<◌, ◌≤◌, Bool, get_or, length, refl, sym, ap, ◌∙◌, subst, Option, Some, None, All}
 use Rattle.std.specs.Prelude.{true, slice_get, option_and_then}
 use Rattle.std.proofs.lemmas.Option.{slice_get_cases}
 use Rattle.rt_base.specs.declared.call.Call.{Call}
@@ -9,11 +9,10 @@ use Rattle.rt_base.specs.declared.id.LockId.{LockId}
 use Rattle.rt_base.specs.declared.id.TaskId.{TaskId}
 use Rattle.rt_model.specs.declared.phase.Phase.{Phase}
 use Rattle.rt_model.specs.declared.phase.Phase.TheVariants as phases
-use Rattle.rt_model.specs.Parts.{ThreadPart, call_of}
+use Rattle.rt_model.specs.Parts.{ThreadPart, call_of, hold_of}
 use Rattle.rt_model.specs.State.{State, thread_part}
-use Rattle.rt_model.specs.Choice.{called_lock}
+use Rattle.rt_model.specs.Choice.{called_lock, present_lock}
 use Rattle.rt_model.specs.Stage.{IsServed, IsStaged, waits}
-use Rattle.rt_model.specs.laws.Queued.{present_lock}
 use Rattle.rt_model.proofs.Lists.{All-at, slice_get-index}
 
 -- a task with a call is one of the state
@@ -52,6 +51,8 @@ pub data WaitsFor (call : Call) (l : LockId) : Type 0 where
   by_lock : call ≡ calls.Lock l → WaitsFor call l
   by_lockint : call ≡ calls.LockInt l → WaitsFor call l
   by_spin : call ≡ calls.Spin l → WaitsFor call l
+  by_read : call ≡ calls.Read l → WaitsFor call l
+  by_write : call ≡ calls.Write l → WaitsFor call l
 
 -- the task is in this phase of a call that waits for the lock
 pub record Asks (s : State) (t : TaskId) (phase : Phase) (l : LockId) : Type 0 where
@@ -59,25 +60,27 @@ pub record Asks (s : State) (t : TaskId) (phase : Phase) (l : LockId) : Type 0 w
   pub waits_for : WaitsFor call l
   pub at : IsIn s t phase call
 
--- what holds of the three calls holds of each that waits
-pub waits-holds : (P : Call → Type 0) (call : Call) (l : LockId) → WaitsFor call l → P (calls.Lock l) → P (calls.LockInt l) → P (calls.Spin l) → P call
-waits-holds P call l (by_lock is) lock lockint spin = subst P (sym is) lock
-waits-holds P call l (by_lockint is) lock lockint spin = subst P (sym is) lockint
-waits-holds P call l (by_spin is) lock lockint spin = subst P (sym is) spin
+-- what holds of the five calls holds of each that waits
+pub waits-holds : (P : Call → Type 0) (call : Call) (l : LockId) → WaitsFor call l → P (calls.Lock l) → P (calls.LockInt l) → P (calls.Spin l) → P (calls.Read l) → P (calls.Write l) → P call
+waits-holds P call l (by_lock is) lock lockint spin read write = subst P (sym is) lock
+waits-holds P call l (by_lockint is) lock lockint spin read write = subst P (sym is) lockint
+waits-holds P call l (by_spin is) lock lockint spin read write = subst P (sym is) spin
+waits-holds P call l (by_read is) lock lockint spin read write = subst P (sym is) read
+waits-holds P call l (by_write is) lock lockint spin read write = subst P (sym is) write
 
 -- it is about that lock, and is one that waits
 pub waits-called : (cpu : Cpu) (call : Call) (l : LockId) → WaitsFor call l → called_lock cpu call ≡ Some l
-waits-called cpu call l is = waits-holds (λ c. called_lock cpu c ≡ Some l) call l is refl refl refl
+waits-called cpu call l is = waits-holds (λ c. called_lock cpu c ≡ Some l) call l is refl refl refl refl refl
 
 pub waits-waits : (call : Call) (l : LockId) → WaitsFor call l → waits call ≡ true
-waits-waits call l is = waits-holds (λ c. waits c ≡ true) call l is refl refl refl
+waits-waits call l is = waits-holds (λ c. waits c ≡ true) call l is refl refl refl refl refl
 
 pub asks-present : (s : State) (t : TaskId) (phase : Phase) (l : LockId) → Asks s t phase l → present_lock (thread_part s t) ≡ Some l
 asks-present s t phase l is = ap (λ (call : Option Call). option_and_then (called_lock (thread_part s t).cpu) call) is.at.calling ∙ waits-called (thread_part s t).cpu is.call l is.waits_for
 
 pub asks-lock : (s : State) (t : TaskId) (phase : Phase) (l : LockId) → Asks s t phase l → l.0 < length s.locks
 asks-lock s t phase l is =
-    waits-holds (λ c. IsServed (length s.threads) (length s.locks) c → l.0 < length s.locks) is.call l is.waits_for (λ served. served) (λ served. served) (λ served. served) is.at.served
+    waits-holds (λ c. IsServed (length s.threads) (length s.locks) c → l.0 < length s.locks) is.call l is.waits_for (λ served. served) (λ served. served) (λ served. served) (λ served. served) (λ served. served) is.at.served
 
 pub asks-waits : (s : State) (t : TaskId) (phase : Phase) (l : LockId) → (is : Asks s t phase l) → waits is.call ≡ true
 asks-waits s t phase l is = waits-waits is.call l is.waits_for
@@ -87,6 +90,8 @@ waited_for : (call : Call) → waits call ≡ true → (l : LockId) × WaitsFor 
 waited_for (calls.Lock l) is = (l, by_lock refl)
 waited_for (calls.LockInt l) is = (l, by_lockint refl)
 waited_for (calls.Spin l) is = (l, by_spin refl)
+waited_for (calls.Read l) is = (l, by_read refl)
+waited_for (calls.Write l) is = (l, by_write refl)
 waited_for _ is = cc
 
 pub asked : (s : State) (t : TaskId) (phase : Phase) (call : Call) → IsIn s t phase call → waits call ≡ true → (l : LockId) × Asks s t phase l × (called_lock (thread_part s t).cpu call ≡ Some l)
@@ -101,25 +106,18 @@ waits-about cpu call l is about =
     let same : some.0 ≡ l = let also = waits-called cpu call some.0 some.1 in cc in
     subst (WaitsFor call) same some.1
 
--- ---- a task that tries for a lock, or releases one
+-- ---- a task that tries for a lock
 
--- the call tries for the lock
+-- the call tries for the lock's owner part
 pub data TriesFor (call : Call) (l : LockId) : Type 0 where
   by_trylock : call ≡ calls.TryLock l → TriesFor call l
   by_tryspin : call ≡ calls.TrySpin l → TriesFor call l
+  by_trywrite : call ≡ calls.TryWrite l → TriesFor call l
 
--- it releases the lock
-pub data Releases (call : Call) (l : LockId) : Type 0 where
-  by_unlock : call ≡ calls.Unlock l → Releases call l
-  by_unspin : call ≡ calls.Unspin l → Releases call l
-
-pub tries-holds : (P : Call → Type 0) (call : Call) (l : LockId) → TriesFor call l → P (calls.TryLock l) → P (calls.TrySpin l) → P call
-tries-holds P call l (by_trylock is) trylock tryspin = subst P (sym is) trylock
-tries-holds P call l (by_tryspin is) trylock tryspin = subst P (sym is) tryspin
-
-pub releases-holds : (P : Call → Type 0) (call : Call) (l : LockId) → Releases call l → P (calls.Unlock l) → P (calls.Unspin l) → P call
-releases-holds P call l (by_unlock is) unlock unspin = subst P (sym is) unlock
-releases-holds P call l (by_unspin is) unlock unspin = subst P (sym is) unspin
+pub tries-holds : (P : Call → Type 0) (call : Call) (l : LockId) → TriesFor call l → P (calls.TryLock l) → P (calls.TrySpin l) → P (calls.TryWrite l) → P call
+tries-holds P call l (by_trylock is) trylock tryspin trywrite = subst P (sym is) trylock
+tries-holds P call l (by_tryspin is) trylock tryspin trywrite = subst P (sym is) tryspin
+tries-holds P call l (by_trywrite is) trylock tryspin trywrite = subst P (sym is) trywrite
 
 -- the task is at the start of a call that tries for the lock, which is there
 pub record Tries (s : State) (t : TaskId) (l : LockId) : Type 0 where
@@ -128,9 +126,50 @@ pub record Tries (s : State) (t : TaskId) (l : LockId) : Type 0 where
   pub at : IsIn s t phases.Start call
   pub lock : l.0 < length s.locks
 
--- and of one that releases it
+-- ---- a task that releases a lock
+
+-- the call releases the lock, which is its owner part
+pub data Releases (call : Call) (l : LockId) : Type 0 where
+  by_unlock : call ≡ calls.Unlock l → Releases call l
+  by_unspin : call ≡ calls.Unspin l → Releases call l
+
+pub releases-holds : (P : Call → Type 0) (call : Call) (l : LockId) → Releases call l → P (calls.Unlock l) → P (calls.Unspin l) → P call
+releases-holds P call l (by_unlock is) unlock unspin = subst P (sym is) unlock
+releases-holds P call l (by_unspin is) unlock unspin = subst P (sym is) unspin
+
+-- it ends with the release of the inner lock
+pub data EndsInner (call : Call) (l : LockId) : Type 0 where
+  of_read : call ≡ calls.Read l → EndsInner call l
+  of_trywrite : call ≡ calls.TryWrite l → EndsInner call l
+  of_unwrite : call ≡ calls.Unwrite l → EndsInner call l
+  of_downgrade : call ≡ calls.Downgrade l → EndsInner call l
+
+pub ends-holds : (P : Call → Type 0) (call : Call) (l : LockId) → EndsInner call l → P (calls.Read l) → P (calls.TryWrite l) → P (calls.Unwrite l) → P (calls.Downgrade l) → P call
+ends-holds P call l (of_read is) read trywrite unwrite downgrade = subst P (sym is) read
+ends-holds P call l (of_trywrite is) read trywrite unwrite downgrade = subst P (sym is) trywrite
+ends-holds P call l (of_unwrite is) read trywrite unwrite downgrade = subst P (sym is) unwrite
+ends-holds P call l (of_downgrade is) read trywrite unwrite downgrade = subst P (sym is) downgrade
+
+-- how a task comes to release the lock: by a call that does so, of a lock that it holds, or at the end of one that had the inner lock
+pub data ReturnsBy (s : State) (t : TaskId) (l : LockId) (call : Call) : Type 0 where
+  from_hold : Releases call l → IsIn s t phases.Start call → (hold_of (thread_part s t) l).owns ≡ true → ReturnsBy s t l call
+  from_inside : EndsInner call l → IsIn s t phases.Release call → ReturnsBy s t l call
+
+-- the task releases the lock, which is there
 pub record Returns (s : State) (t : TaskId) (l : LockId) : Type 0 where
   pub call : Call
-  pub releases : Releases call l
-  pub at : IsIn s t phases.Start call
+  pub calling : call_of (thread_part s t) ≡ Some call
+  pub by : ReturnsBy s t l call
+  pub task : t.0 < length s.threads
   pub lock : l.0 < length s.locks
+
+-- ---- a task that reads or writes a reader/writer lock
+
+-- the call writes, and may only try
+pub data Writes (call : Call) (l : LockId) : Type 0 where
+  writes_by : call ≡ calls.Write l → Writes call l
+  tries_by : call ≡ calls.TryWrite l → Writes call l
+
+pub writes-holds : (P : Call → Type 0) (call : Call) (l : LockId) → Writes call l → P (calls.Write l) → P (calls.TryWrite l) → P call
+writes-holds P call l (writes_by is) write trywrite = subst P (sym is) write
+writes-holds P call l (tries_by is) write trywrite = subst P (sym is) trywrite

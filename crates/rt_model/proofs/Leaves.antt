@@ -199,7 +199,7 @@ module _ (s : State) (made : ℕ) (t : TaskId) (l : LockId) (e : Event) (lawful 
     where
       to_come : (i : IsLeft s t l e) (asks : Asks s t (left_phase i) l) → IsToCome asks.call (left_answer i)
       to_come (by_leave leaves) asks = let same : asks.call ≡ calls.LockInt l = let also = leaves.at.calling in let this = asks.at.calling in cc in subst (λ (c : Call). IsToCome c Interrupted) (sym same) (inr refl)
-      to_come (by_cycle path o m rest tells round owned) asks = waits-holds (λ c. IsToCome c Deadlock) asks.call l asks.waits_for refl (inl refl) refl
+      to_come (by_cycle path o m rest tells round owned) asks = waits-holds (λ c. IsToCome c Deadlock) asks.call l asks.waits_for refl (inl refl) refl refl refl
 
   -- ---- locks
 

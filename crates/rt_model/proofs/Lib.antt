@@ -14,6 +14,7 @@ pub mod NextEvents
 pub mod PartsAfter
 pub mod Blocked
 pub mod Calm
+pub mod Reading
 pub mod TaskStates
 -- what an event reads and writes
 pub mod Frame
@@ -22,6 +23,7 @@ pub mod Local
 pub mod Uninvolved
 -- what a lawful state says of a task
 pub mod Within
+pub mod Inside
 pub mod Waiters
 pub mod PathLinks
 pub mod Named

@@ -1,5 +1,5 @@
 -- What a next event names is there.
-use Rattle.std.proofs.Common.{ℕ, ◌<◌, [], Bool, true, false, cond, not, ◌&&◌, List, length, sym, ap, ◌∙◌, subst, Option, Some, None, IfSome, All, is_none}
+use Rattle.std.proofs.Common.{◌≡◌, refl, ℕ, ◌<◌, [], Bool, true, false, cond, not, ◌&&◌, List, length, sym, ap, ◌∙◌, subst, Option, Some, None, IfSome, All, is_none}
 use Rattle.std.specs.Prelude.{nat_eq, option_map}
 use Rattle.std.proofs.lemmas.Bool.{cond_both}
 use Rattle.std.proofs.lemmas.List.Elements.{All-nil, All-filter}
@@ -25,11 +25,12 @@ use Rattle.rt_model.specs.steps.Chain.{has_old_key, requeued_where_old, newly_to
 use Rattle.rt_model.specs.laws.Lawful.{IsLawful}
 use Rattle.rt_model.specs.laws.Shape.{IsWithin}
 use Rattle.rt_model.proofs.Calling.{asks-lock}
-use Rattle.rt_model.proofs.NextEvents.{IsNext, by_own, by_acquire, by_wait, by_release, by_walk, by_confirm, by_wakeup, by_setprio}
+use Rattle.rt_model.proofs.NextEvents.{IsNext, by_own, by_acquire, by_wait, by_release, by_reading, by_walk, by_confirm, by_wakeup, by_setprio}
 use Rattle.rt_model.proofs.events.Own.{IsOwn}
 use Rattle.rt_model.proofs.events.Acquire.{IsAcquire, is_fast, is_mark, is_take, is_busy}
 use Rattle.rt_model.proofs.events.Wait.{IsWaiting, is_wait, is_again, is_leave}
 use Rattle.rt_model.proofs.events.Release.{IsRelease, is_free, is_give}
+use Rattle.rt_model.proofs.events.Readers.{IsReading, reading-in, reading-holds}
 use Rattle.rt_model.proofs.events.Walk.{IsWalking, is_walk, is_walkend, IsRestart, IsCycleEvent, is_restart, is_cycle}
 use Rattle.rt_model.proofs.events.Wakeups.{IsWakeup, is_state, is_sched, is_wake, is_signal, IsSetPrio}
 use Rattle.rt_model.proofs.Queues.{top-holds, All-insert_row}
@@ -45,6 +46,13 @@ called_within m n cpu (calls.Unlock l) served = served
 called_within m n cpu (calls.Spin l) served = served
 called_within m n cpu (calls.TrySpin l) served = served
 called_within m n cpu (calls.Unspin l) served = served
+called_within m n cpu (calls.Read l) served = served
+called_within m n cpu (calls.TryRead l) served = served
+called_within m n cpu (calls.Unread l) served = served
+called_within m n cpu (calls.Write l) served = served
+called_within m n cpu (calls.TryWrite l) served = served
+called_within m n cpu (calls.Unwrite l) served = served
+called_within m n cpu (calls.Downgrade l) served = served
 called_within m n cpu (calls.State state) served = tt
 called_within m n cpu calls.Schedule served = tt
 called_within m n cpu (calls.Wake u) served = tt
@@ -101,7 +109,7 @@ module _ (s : State) (made : ℕ) (t : TaskId) (e : Event) (lawful : IsLawful s 
 
   of_acquire : (l : LockId) → IsAcquire s t l e → Within e
   of_acquire l (is_fast is) = subst Within (sym is.event) (record { task = is.task; lock = is.lock; other = tt; owner = tt; woken = tt; boost = tt; path = none })
-  of_acquire l (is_mark is) = subst Within (sym is.event) (record { task = is.at.at.task; lock = asks-lock s t phases.Start l is.at; other = tt; owner = tt; woken = tt; boost = tt; path = none })
+  of_acquire l (is_mark is) = subst Within (sym is.event) (record { task = is.task; lock = is.lock; other = tt; owner = tt; woken = tt; boost = tt; path = none })
   of_acquire l (is_take is) = subst Within (sym is.event) (record { task = is.task; lock = is.lock; other = tt; owner = tt; woken = tt; boost = boost_within (length s.threads) t _ _ is.task; path = none })
   of_acquire l (is_busy is) = subst Within (sym is.event) (record { task = is.at.at.task; lock = is.at.lock; other = tt; owner = owner_within s l lawful.shape is.at.lock; woken = tt; boost = tt; path = none })
 
@@ -116,10 +124,41 @@ module _ (s : State) (made : ℕ) (t : TaskId) (e : Event) (lawful : IsLawful s 
       subst Within (sym is.event) (record { task = is.at.task; lock = is.at.served; other = tt; owner = owner; woken = tt; boost = boost_at_within (length s.threads) (owner_part s l).owner _ _ owner; path = none })
 
   of_release : (l : LockId) → IsRelease s t l e → Within e
-  of_release l (is_free is) = subst Within (sym is.event) (record { task = is.at.at.task; lock = is.at.lock; other = tt; owner = tt; woken = tt; boost = tt; path = none })
+  of_release l (is_free is) = subst Within (sym is.event) (record { task = is.at.task; lock = is.at.lock; other = tt; owner = tt; woken = tt; boost = tt; path = none })
   of_release l (is_give is) =
       let woken = top_within (length s.threads) (owner_part s l).rows (rows_within s l lawful.shape is.at.lock) in
-      subst Within (sym is.event) (record { task = is.at.at.task; lock = is.at.lock; other = tt; owner = tt; woken = woken; boost = boost_within (length s.threads) t _ _ is.at.at.task; path = none })
+      subst Within (sym is.event) (record { task = is.at.task; lock = is.at.lock; other = tt; owner = tt; woken = woken; boost = boost_within (length s.threads) t _ _ is.at.task; path = none })
+
+  of_reading : (l : LockId) → IsReading s t l e → Within e
+  of_reading l is =
+      let at = reading-in s t l e is in
+      let owner = owner_within s l lawful.shape at.lock in
+      let plain : (x : Event) → (x.task ≡ t) × (x.lock ≡ Some l) × (x.other ≡ None) × IfSome x.owner (λ v. v.0 < length s.threads) × IfSome x.woken (λ v. v.0 < length s.threads) × (x.boost ≡ None) × (x.path ≡ []) → Within x = λ x named. record {
+        task = subst (λ (v : TaskId). v.0 < length s.threads) (sym named.0) at.at.task;
+        lock = subst (λ (o : Option LockId). IfSome o (λ m. m.0 < length s.locks)) (sym named.1) at.lock;
+        other = subst (λ (o : Option TaskId). IfSome o (λ v. v.0 < length s.threads)) (sym named.2) tt;
+        owner = named.3;
+        woken = named.4;
+        boost = subst (λ (o : Option (TaskId × ℕ)). IfSome o (λ b. b.0.0 < length s.threads)) (sym named.5) tt;
+        path = subst (All IsThere) (sym named.6) none;
+      } in
+      reading-holds (λ phase. Within) s t l e is
+      (record {
+        read = plain _ (refl, refl, refl, tt, tt, refl, refl);
+        let_in = plain _ (refl, refl, refl, tt, tt, refl, refl);
+        shut = plain _ (refl, refl, refl, tt, tt, refl, refl);
+        tryshut = plain _ (refl, refl, refl, tt, tt, refl, refl);
+        out = plain _ (refl, refl, refl, tt, tt, refl, refl);
+        wwake = plain _ (refl, refl, refl, owner, owner, refl, refl);
+        unbias = plain _ (refl, refl, refl, tt, tt, refl, refl);
+        written = plain _ (refl, refl, refl, tt, tt, refl, refl);
+        late = plain _ (refl, refl, refl, at.at.task, tt, refl, refl);
+        sleep = plain _ (refl, refl, refl, tt, tt, refl, refl);
+        again = plain _ (refl, refl, refl, tt, tt, refl, refl);
+        given_up = plain _ (refl, refl, refl, tt, tt, refl, refl);
+        opened = plain _ (refl, refl, refl, tt, tt, refl, refl);
+        downgraded = plain _ (refl, refl, refl, tt, tt, refl, refl);
+      })
 
   pub of_walk : (route : Route) (u : TaskId) → IsWalking s t route u e → Within e
   of_walk route u (is_walk l key is) =
@@ -173,6 +212,7 @@ pub within : (s : State) (made : ℕ) (t : TaskId) (e : Event) → IsLawful s ma
 within s made t e lawful (by_own call answer is) = of_own s made t e lawful call answer is
 within s made t e lawful (by_acquire l is) = of_acquire s made t e lawful l is
 within s made t e lawful (by_wait l is) = of_wait s made t e lawful l is
+within s made t e lawful (by_reading l is) = of_reading s made t e lawful l is
 within s made t e lawful (by_release l is) = of_release s made t e lawful l is
 within s made t e lawful (by_walk route u is) = of_walk s made t e lawful route u is
 within s made t e lawful (by_confirm l path (is_restart link is)) = of_restart s made t e lawful l path link is

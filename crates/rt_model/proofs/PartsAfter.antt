@@ -8,10 +8,12 @@ use Rattle.rt_base.specs.declared.id.TaskId.{TaskId}
 use Rattle.rt_model.specs.declared.event.Event.{Event}
 use Rattle.rt_model.specs.declared.event_kind.EventKind.{EventKind}
 use Rattle.rt_model.specs.declared.event_kind.EventKind.TheVariants as kinds
+use Rattle.rt_model.specs.declared.reader_cell.ReaderCell.{ReaderCell}
 use Rattle.rt_model.specs.Parts.{OwnerPart, TaskPart, ThreadPart}
-use Rattle.rt_model.specs.State.{State, shared, free_lock, no_task, owner_part, task_part, thread_part}
+use Rattle.rt_model.specs.State.{State, shared, free_lock, no_readers, no_task, owner_part, reader_part, task_part, thread_part}
 use Rattle.rt_model.specs.Effect.{Touched, Around, Effect, around}
 use Rattle.rt_model.specs.Rules.{touched, effect}
+use Rattle.rt_model.specs.events.Readers.{where_slept}
 use Rattle.rt_model.specs.laws.Owners.{owned_by}
 use Rattle.rt_model.specs.StateAfter.{update, at_lock, at_task, effect_in, lock_left, thread_after, state_after}
 use Rattle.rt_model.proofs.Lists.{update-other, at_lock-none, length-at_task}
@@ -97,6 +99,53 @@ lock-kept P s e x m is was keeps = subst (λ (y : Event). P (owner_part (state_a
 pub locks-kept : (s : State) (e : Event) (m : LockId) → ((lock : OwnerPart) → (effect_in (shared s) (thread_part s e.task) e).lock lock ≡ lock) → owner_part (state_after s e) m ≡ owner_part s m
 locks-kept s e m same = ap (λ (xs : List OwnerPart). owner_part (record s { locks = xs }) m) (at_lock-none s.locks (touched e.kind e).lock _ same)
 
+-- ---- reader parts, likewise
+
+pub readers-made : (P : LockId → ReaderCell → Type 0) (s : State) (e x : Event) (l m : LockId) → e ≡ x → (touched x.kind x).readers ≡ Some l → l.0 < length s.readers
+    → P l ((effect_in (shared s) (thread_part s x.task) x).readers (reader_part s l)) → (nat_eq l.0 m.0 ≡ false → P m (reader_part s m)) → P m (reader_part (state_after s e) m)
+readers-made P s e x l m is named lt here there =
+    subst (λ (y : Event). P m (reader_part (state_after s y) m)) (sym is)
+    (at_each_lock (λ k. P k (reader_part (state_after s x) k)) l m (subst (P l) (sym changed) here) (λ ne. subst (P m) (sym (kept ne)) (there ne)))
+  where
+    f : ReaderCell → ReaderCell
+    f = (effect_in (shared s) (thread_part s x.task) x).readers
+
+    at : Option LockId → LockId → ReaderCell
+    at o k = reader_part (record s { readers = at_lock s.readers o f }) k
+
+    changed : reader_part (state_after s x) l ≡ f (reader_part s l)
+    changed = ap (λ (o : Option LockId). at o l) named ∙ read-update s.readers l.0 f no_readers lt
+
+    kept : nat_eq l.0 m.0 ≡ false → reader_part (state_after s x) m ≡ reader_part s m
+    kept ne = ap (λ (o : Option LockId). at o m) named ∙ read-update_other s.readers l.0 m.0 f no_readers ne
+
+-- where it touches none, or leaves each as it was, every reader part is as it was
+pub reader_parts-kept : (s : State) (e : Event) (m : LockId) → ((cell : ReaderCell) → (effect_in (shared s) (thread_part s e.task) e).readers cell ≡ cell) → reader_part (state_after s e) m ≡ reader_part s m
+reader_parts-kept s e m same = ap (λ (xs : List ReaderCell). reader_part (record s { readers = xs }) m) (at_lock-none s.readers (touched e.kind e).readers _ same)
+
+-- an event of this kind changes a reader part
+abbrev pub changes_readers : EventKind → Bool
+changes_readers kinds.RIn = true
+changes_readers kinds.ROut = true
+changes_readers kinds.Unbias = true
+changes_readers kinds.WTake = true
+changes_readers kinds.WOpen = true
+changes_readers _ = false
+
+pub readers-left : (kind : EventKind) (e : Event) (th : ThreadPart) (found : Around) → changes_readers kind ≡ false → (cell : ReaderCell) → (effect kind e th found).readers cell ≡ cell
+readers-left kinds.RIn e th found is cell = cc
+readers-left kinds.ROut e th found is cell = cc
+readers-left kinds.Unbias e th found is cell = cc
+readers-left kinds.WTake e th found is cell = cc
+readers-left kinds.WOpen e th found is cell = cc
+readers-left _ e th found is cell = refl
+
+-- and no other kind does
+pub readers-kept : (s : State) (e x : Event) (m : LockId) → e ≡ x → changes_readers x.kind ≡ false → reader_part (state_after s e) m ≡ reader_part s m
+readers-kept s e x m is kept =
+    subst (λ (y : Event). reader_part (state_after s y) m ≡ reader_part s m) (sym is)
+    (reader_parts-kept s x m (readers-left x.kind x (thread_part s x.task) (around (shared s) (touched x.kind x)) kept))
+
 -- ---- threads
 
 -- its own thread is as the effect and the answer say
@@ -146,8 +195,15 @@ task-keeps P s e u was own others =
     let lock = lock_left (shared s) (thread_part s e.task) e in
     after-own P s e u (others found lock) (slot-keeps P s.tasks (touched e.kind e).own u _ was (own found lock))
 
--- the slot of its own task has that task, or changes nothing
-own-slot : (kind : EventKind) (e : Event) (th : ThreadPart) (found : Around) (lock : OwnerPart) → ((touched kind e).own ≡ Some e.task) ⊎ ((task : TaskPart) → (effect kind e th found).own lock task ≡ task)
+-- the slot of its own task has that task, or none, or changes nothing
+abbrev IsOwnSlot : Event → Option TaskId → (TaskPart → TaskPart) → Type 0
+IsOwnSlot e named f = (named ≡ Some e.task) ⊎ ((named ≡ None) ⊎ ((task : TaskPart) → f task ≡ task))
+
+slept-slot : (e : Event) (owner : Option TaskId) (f : TaskPart → TaskPart) → IsOwnSlot e (where_slept e.task owner) f
+slept-slot e None f = inr (inl refl)
+slept-slot e (Some owner) f = inl refl
+
+own-slot : (kind : EventKind) (e : Event) (th : ThreadPart) (found : Around) (lock : OwnerPart) → IsOwnSlot e (touched kind e).own ((effect kind e th found).own lock)
 own-slot kinds.Take e th found lock = inl refl
 own-slot kinds.Wait e th found lock = inl refl
 own-slot kinds.Again e th found lock = inl refl
@@ -156,7 +212,9 @@ own-slot kinds.Cycle e th found lock = inl refl
 own-slot kinds.Give e th found lock = inl refl
 own-slot kinds.State e th found lock = inl refl
 own-slot kinds.Sched e th found lock = inl refl
-own-slot _ e th found lock = inr (λ task. refl)
+own-slot kinds.WSleep e th found lock = inl refl
+own-slot kinds.WTake e th found lock = slept-slot e e.owner ((effect kinds.WTake e th found).own lock)
+own-slot _ e th found lock = inr (inr (λ task. refl))
 
 -- so what the other slots keep is kept of every other task
 pub other-keeps : (P : TaskPart → Type 0) (s : State) (e : Event) (u : TaskId) → nat_eq e.task.0 u.0 ≡ false → P (task_part s u)
@@ -175,9 +233,10 @@ other-keeps P s e u ne was others = after-own P s e u (others found lock) (by_sl
     Read : Option TaskId → Type 0
     Read named = P (unwrap_or (slice_get (at_task s.tasks named f) u.0) no_task)
 
-    by_slot : ((touched e.kind e).own ≡ Some e.task) ⊎ ((task : TaskPart) → f task ≡ task) → Read (touched e.kind e).own
+    by_slot : IsOwnSlot e (touched e.kind e).own f → Read (touched e.kind e).own
     by_slot (inl named) = subst Read (sym named) (subst P (sym (read-update_other s.tasks e.task.0 u.0 f no_task ne)) was)
-    by_slot (inr same) = slot-keeps P s.tasks (touched e.kind e).own u f was (λ task is. subst P (sym (same task)) is)
+    by_slot (inr (inl none)) = subst Read (sym none) was
+    by_slot (inr (inr same)) = slot-keeps P s.tasks (touched e.kind e).own u f was (λ task is. subst P (sym (same task)) is)
 
 -- ---- what an event that comes about as x leaves of a task
 

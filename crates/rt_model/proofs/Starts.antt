@@ -22,6 +22,7 @@ use Rattle.rt_model.specs.declared.phase.Phase.TheVariants as phases
 use Rattle.rt_model.specs.declared.row.Row.{Row}
 use Rattle.rt_model.specs.Parts.{OwnerPart, TaskPart, ThreadPart, effective_of, call_of, hold_of}
 use Rattle.rt_model.specs.Rows.{top_waiter, top_key, task_of, queued_key}
+use Rattle.rt_model.specs.Choice.{present_lock}
 use Rattle.rt_model.specs.State.{start, free_lock, fresh_task, fresh_thread, no_readers, kinds_in, owner_part, task_part, thread_part}
 use Rattle.rt_model.specs.Stage.{IsPlayed, IsPlayable, IsServed, IsForKind, IsStaged, IsPhaseOf}
 use Rattle.rt_model.specs.Path.{Link, links_to, Edge, IsCycle}
@@ -31,7 +32,7 @@ use Rattle.rt_model.specs.laws.KeptTops.{kept_of}
 use Rattle.rt_model.specs.laws.Owners.{owned_by}
 use Rattle.rt_model.specs.laws.Migration.{pins, pinned, MigrationLaw}
 use Rattle.rt_model.specs.laws.States.{waits_spinning, IsRested}
-use Rattle.rt_model.specs.laws.Queued.{QueuedLaw, present_lock, awaited_in, asked_in}
+use Rattle.rt_model.specs.laws.Queued.{QueuedLaw, awaited_in, asked_in}
 use Rattle.rt_model.specs.laws.Walks.{IsWalkOf}
 use Rattle.rt_model.specs.laws.OwnPriorities.{OwnPrioritiesLaw}
 use Rattle.rt_model.specs.laws.Responsible.{ResponsibleLaw}

@@ -1,5 +1,5 @@
 -- What an event keeps of a task's state and of what is saved.
-use Rattle.std.proofs.Common.{◌≡◌, ◌≢◌, ◌⊎◌, inl, inr, ℕ, zero, suc, ◌<◌, Bool, true, false, cond, ◌&&◌, List, length, refl, sym, ap, ◌∙◌, Option, Some, None, unwrap_or}
+use Rattle.std.proofs.Common.{◌≡◌, ◌≢◌, ◌⊎◌, inl, inr, ℕ, zero, suc, ◌<◌, Bool, true, false, cond, ◌&&◌, ◌||◌, List, length, refl, sym, ap, ◌∙◌, Option, Some, None, unwrap_or}
 use Rattle.std.specs.Prelude.{is_some, nat_eq, slice_get}
 use Rattle.std.proofs.lemmas.Bool.{cond_both}
 use Rattle.rt_base.specs.Kind.{spins}
@@ -18,10 +18,11 @@ use Rattle.rt_model.specs.Parts.{OwnerPart, TaskPart, ThreadPart, kind_of, kind_
 use Rattle.rt_model.specs.Rows.{top_key}
 use Rattle.rt_model.specs.State.{State, task_part, thread_part}
 use Rattle.rt_model.specs.steps.Task.{with_top, sleep_of, saved_for, restored, leave_queue, sleeps, is_interruptible, woken_up, woken_by, lock_state_woken, lock_woken, state_numbered}
+use Rattle.rt_model.specs.Choice.{present_lock}
 use Rattle.rt_model.specs.Effect.{Around}
 use Rattle.rt_model.specs.Rules.{effect}
 use Rattle.rt_model.specs.laws.Shape.{IsShaped}
-use Rattle.rt_model.specs.laws.States.{spins_at, waits_spinning, IsRested}
+use Rattle.rt_model.specs.laws.States.{has_slept, spins_at, waits_spinning, IsRested}
 use Rattle.rt_model.proofs.CellStepLemmas.{where_changed}
 use Rattle.rt_model.proofs.Lists.{All-default}
 use Rattle.rt_model.proofs.PartsAfter.{OthersKeep}
@@ -40,6 +41,8 @@ can_sleep kinds.Take = true
 can_sleep kinds.Leave = true
 can_sleep kinds.Cycle = true
 can_sleep kinds.State = true
+can_sleep kinds.WSleep = true
+can_sleep kinds.WTake = true
 can_sleep _ = false
 
 -- a P that holds on where a task is set running, and where nothing is saved any more
@@ -79,6 +82,8 @@ module _ (P : TaskState → TaskState → Type 0) (runs : (state saved : TaskSta
   states-own kinds.Leave e th is found lock task was = cc
   states-own kinds.Cycle e th is found lock task was = cc
   states-own kinds.State e th is found lock task was = cc
+  states-own kinds.WSleep e th is found lock task was = cc
+  states-own kinds.WTake e th is found lock task was = cc
   states-own kinds.Sched e th is found lock task was = runs task.state task.saved was
   states-own kinds.Give e th is found lock task was = states-with_top e.lock None task was
   states-own _ e th is found lock task was = was
@@ -90,6 +95,7 @@ module _ (P : TaskState → TaskState → Type 0) (runs : (state saved : TaskSta
   states-others kinds.Cycle e th found lock = record { owner = states-with_top e.lock (top_key lock.rows); other = λ task was. was; woken = λ task was. was }
   states-others kinds.Wake e th found lock = record { owner = λ task was. was; other = states-woken_by e.value; woken = λ task was. was }
   states-others kinds.Give e th found lock = record { owner = λ task was. was; other = λ task was. was; woken = states-lock_woken (spins (kind_named th e.lock)) }
+  states-others kinds.WWake e th found lock = record { owner = λ task was. was; other = λ task was. was; woken = states-lock_woken (spins (kind_named th e.lock)) }
   states-others kinds.Walk e th found lock = record {
     owner = λ task was. where_changed (HasStates P) e.lock found.lock.rows lock.rows task was (states-with_top e.lock (top_key lock.rows) task was);
     other = λ task was. was;
@@ -213,6 +219,15 @@ spins_told : (thread : ThreadPart) (blocked : Option (LockId × ℕ)) → spins_
 spins_told thread None = refl
 spins_told thread (Some at) = refl
 
+-- who doesn't sleep for readers waits for a spinning kind where it is blocked on a lock of one
+pub queued_waits : (thread : ThreadPart) (task : TaskPart) → has_slept thread.phase ≡ false → waits_spinning thread task ≡ spins_at thread task.blocked
+queued_waits thread task awake =
+    (λ i. spins_at thread task.blocked || (awake i && spins (kind_named thread (present_lock thread)))) ∙ or_false (spins_at thread task.blocked)
+  where
+    or_false : (b : Bool) → (b || false) ≡ b
+    or_false true = refl
+    or_false false = refl
+
 -- so it is the same where these stay
 pub still_waits : (thread after : ThreadPart) (blocked left : Option (LockId × ℕ)) → after.kinds ≡ thread.kinds → blocking left ≡ blocking blocked → spins_at after left ≡ spins_at thread blocked
 still_waits thread after blocked left known same = spins_told after left ∙ ((λ i. spins_among (known i) (same i)) ∙ sym (spins_told thread blocked))
@@ -221,10 +236,11 @@ still_waits thread after blocked left known same = spins_told after left ∙ ((�
 pub waits_there : (thread other : ThreadPart) (blocked : Option (LockId × ℕ)) (l : LockId) → thread.kinds ≡ other.kinds → blocking blocked ≡ Some l → spins_at thread blocked ≡ spins (kind_of other l)
 waits_there thread other blocked l known is = spins_told thread blocked ∙ (λ i. spins_among (known i) (is i))
 
--- all threads know the same kinds, so any of them tells it of a task that is blocked on the lock
-pub waits_as : (s : State) (u v : TaskId) (l : LockId) → IsShaped s → u.0 < length s.threads → v.0 < length s.threads → blocking (task_part s u).blocked ≡ Some l
+-- all threads know the same kinds, so any of them tells it of a task that is blocked on the lock and doesn't sleep for readers
+pub waits_as : (s : State) (u v : TaskId) (l : LockId) → IsShaped s → u.0 < length s.threads → v.0 < length s.threads → blocking (task_part s u).blocked ≡ Some l → has_slept (thread_part s u).phase ≡ false
     → waits_spinning (thread_part s u) (task_part s u) ≡ spins (kind_of (thread_part s v) l)
-waits_as s u v l shaped here there is = waits_there (thread_part s u) (thread_part s v) (task_part s u).blocked l (known u here ∙ sym (known v there)) is
+waits_as s u v l shaped here there is awake =
+    queued_waits (thread_part s u) (task_part s u) awake ∙ waits_there (thread_part s u) (thread_part s v) (task_part s u).blocked l (known u here ∙ sym (known v there)) is
   where
     known : (w : TaskId) → w.0 < length s.threads → (thread_part s w).kinds ≡ shaped.known
     known w lt = All-default (λ (thread : ThreadPart). thread.kinds ≡ shaped.known) s.threads w.0 _ shaped.alike lt

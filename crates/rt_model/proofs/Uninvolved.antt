@@ -20,6 +20,7 @@ use Rattle.rt_model.specs.Rules.{touched, effect}
 use Rattle.rt_model.specs.Choice.{called_lock}
 use Rattle.rt_model.specs.events.Own.{own_answer}
 use Rattle.rt_model.specs.events.Acquire.{unowned, busy_touched}
+use Rattle.rt_model.specs.events.Readers.{where_slept}
 use Rattle.rt_model.specs.events.Wait.{is_interrupted, is_awake}
 use Rattle.rt_model.specs.StateAfter.{at_task, effect_in, lock_left, state_after}
 use Rattle.rt_model.specs.CanMove.{has_first, can_go_on, can_in, can_at, can_move, IsOther, IsUninvolved}
@@ -44,6 +45,7 @@ same-awake call x y state signal = λ i. runs (state i) || same-interrupted call
 same-goes_on : (phase : Phase) (thread : ThreadPart) (x y : TaskPart) (lock : Option LockId)
     → y.state ≡ x.state → y.signal ≡ x.signal → can_go_on phase thread y lock ≡ can_go_on phase thread x lock
 same-goes_on phases.Wait thread x y (Some l) state signal = same-awake (call_of thread) x y state signal
+same-goes_on phases.WWait thread x y (Some l) state signal = ap runs state
 same-goes_on _ thread x y lock state signal = refl
 
 same-first : (call : Call) (x y : TaskPart) → y.state ≡ x.state → y.signal ≡ x.signal → has_first call y ≡ has_first call x
@@ -91,6 +93,10 @@ busy-other : (value : ℕ) (u : TaskId) (e : Event) → nat_eq e.task.0 u.0 ≡ 
 busy-other zero u e ne = record { own = unowned-other u e.task e.owner ne; other = tt; woken = tt }
 busy-other (suc n) u e ne = record { own = tt; other = tt; woken = tt }
 
+slept-other : (u t : TaskId) (owner : Option TaskId) → nat_eq t.0 u.0 ≡ false → IsOther u (where_slept t owner)
+slept-other u t None ne = tt
+slept-other u t (Some o) ne = ne
+
 slots : (kind : EventKind) (u : TaskId) (e : Event) → IsUninvolved u e → IsNoSlot u (touched kind e)
 slots kinds.Take u e un = record { own = un.task; other = tt; woken = tt }
 slots kinds.Busy u e un = busy-other e.value u e un.task
@@ -101,7 +107,8 @@ slots kinds.Give u e un = record { own = un.task; other = tt; woken = un.woken }
 slots kinds.Walk u e un = record { own = tt; other = un.other; woken = un.woken }
 slots kinds.Cycle u e un = record { own = un.task; other = tt; woken = tt }
 slots kinds.WalkEnd u e un = record { own = tt; other = un.other; woken = tt }
-slots kinds.WTake u e un = record { own = un.owner; other = tt; woken = tt }
+slots kinds.WTake u e un = record { own = slept-other u e.task e.owner un.task; other = tt; woken = tt }
+slots kinds.WWake u e un = record { own = tt; other = tt; woken = un.woken }
 slots kinds.WSleep u e un = record { own = un.task; other = tt; woken = tt }
 slots kinds.State u e un = record { own = un.task; other = tt; woken = tt }
 slots kinds.Sched u e un = record { own = un.task; other = tt; woken = tt }

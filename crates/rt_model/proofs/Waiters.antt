@@ -14,11 +14,12 @@ use Rattle.rt_model.specs.declared.phase.Route.TheVariants.{Full, Short}
 use Rattle.rt_model.specs.Parts.{ThreadPart, call_of}
 use Rattle.rt_model.specs.Rows.{queued_key}
 use Rattle.rt_model.specs.State.{State, owner_part, task_part, thread_part}
-use Rattle.rt_model.specs.Choice.{called_lock}
+use Rattle.rt_model.specs.Choice.{called_lock, present_lock}
 use Rattle.rt_model.specs.Stage.{IsServed, IsPhaseOf, IsStaged}
 use Rattle.rt_model.specs.laws.Lawful.{IsLawful}
-use Rattle.rt_model.specs.laws.Queued.{present_lock, awaited_in, asked_in, QueuedLaw}
+use Rattle.rt_model.specs.laws.Queued.{awaited_in, asked_in, QueuedLaw}
 use Rattle.rt_model.specs.laws.Rows.{key_at}
+use Rattle.rt_model.specs.laws.States.{has_slept}
 use Rattle.rt_model.specs.laws.Owners.{owned_by}
 use Rattle.rt_model.specs.laws.Phases.{PhasesLaw}
 use Rattle.rt_model.specs.laws.Walks.{IsFullWalk, IsToConfirm, IsWalkOf}
@@ -49,12 +50,16 @@ module _ (s : State) (made : ℕ) (t : TaskId) (lawful : IsLawful s made) where
   pub asks-awaited : (phase : Phase) (l : LockId) → Asks s t phase l → blocking (task_part s t).blocked ≡ awaited_in phase (Some l)
   asks-awaited phase l is = awaited phase is.call is.at ∙ ap (awaited_in phase) (waits-called (thread_part s t).cpu is.call l is.waits_for)
 
-  -- before a call's first event and with the bit set it is blocked on nothing
+  -- in a phase in which it waits for no lock it is blocked on nothing
+  pub idle-blocked : (phase : Phase) (call : Call) → IsIn s t phase call → awaited_in phase (called_lock (thread_part s t).cpu call) ≡ None → (task_part s t).blocked ≡ None
+  idle-blocked phase call at idle = not_blocking (task_part s t).blocked (awaited phase call at ∙ idle)
+
+  -- so before a call's first event and with the bit set
   pub start-blocked : (call : Call) → IsIn s t phases.Start call → (task_part s t).blocked ≡ None
-  start-blocked call at = not_blocking (task_part s t).blocked (awaited phases.Start call at)
+  start-blocked call at = idle-blocked phases.Start call at refl
 
   pub slow-blocked : (call : Call) → IsIn s t phases.Slow call → (task_part s t).blocked ≡ None
-  slow-blocked call at = not_blocking (task_part s t).blocked (awaited phases.Slow call at)
+  slow-blocked call at = idle-blocked phases.Slow call at refl
 
   -- one that takes a lock, or waits, is blocked on no other
   pub wait-elsewhere : (l m : LockId) → Asks s t phases.Wait l → nat_eq l.0 m.0 ≡ false → key_at (task_part s t).blocked m ≡ None
@@ -79,6 +84,14 @@ module _ (s : State) (made : ℕ) (t : TaskId) (lawful : IsLawful s made) where
   take-elsewhere l m (from_trying is) ne = ap (λ (b : Option (LockId × ℕ)). key_at b m) (start-blocked is.call is.at)
 
 -- ---- who is blocked, and on what
+
+-- a task that is blocked doesn't sleep for readers
+pub queued-awake : (s : State) (u : TaskId) (l : LockId) → QueuedLaw s → blocking (task_part s u).blocked ≡ Some l → has_slept (thread_part s u).phase ≡ false
+queued-awake s u l queued is = by_phase (thread_part s u).phase (sym (queued.blocked u) ∙ is)
+  where
+    by_phase : (phase : Phase) → awaited_in phase (present_lock (thread_part s u)) ≡ Some l → has_slept phase ≡ false
+    by_phase phases.WWait waits = cc
+    by_phase _ waits = refl
 
 -- the phases in which a task is queued: it waits, or its own full walk is under way or to be confirmed
 pub data QueuedIn (phase : Phase) : Type 0 where
@@ -106,7 +119,13 @@ awaits thread l (phases.Walk cursor (Full path)) None fits is = absurd fits
 awaits thread l (phases.Walk cursor (Short answer)) call fits is = cc
 awaits thread l (phases.Confirm path) (Some c) fits is = (in_confirm path refl, c, waits-about thread.cpu c l fits is, refl)
 awaits thread l (phases.Confirm path) None fits is = absurd fits
-awaits thread l _ call fits is = absurd fits
+awaits thread l phases.Inner call fits is = cc
+awaits thread l phases.ReadIn call fits is = cc
+awaits thread l phases.Unbias call fits is = cc
+awaits thread l phases.WTry call fits is = cc
+awaits thread l phases.WWait call fits is = cc
+awaits thread l phases.Release call fits is = cc
+awaits thread l phases.WakeWriter call fits is = cc
 
 -- a blocked task waits for the lock on which it is blocked
 pub WaitsFor-blocked : (s : State) (u : TaskId) (at : LockId × ℕ) → IsStaged s → PhasesLaw s → QueuedLaw s → (task_part s u).blocked ≡ Some at → Awaits s u at.0
@@ -118,7 +137,7 @@ WaitsFor-blocked s u at staged phased queued is =
       call = found.1;
       waits_for = found.2;
       calling = found.3;
-      lock = waits-holds Within found.1 at.0 found.2 (λ served. served) (λ served. served) (λ served. served) (served_call s u found.1 staged found.3);
+      lock = waits-holds Within found.1 at.0 found.2 (λ served. served) (λ served. served) (λ served. served) (λ served. served) (λ served. served) (served_call s u found.1 staged found.3);
     }
 
 -- and doesn't own that lock

@@ -32,3 +32,7 @@ pub kept_room : (s : State) (u : TaskId) (l : LockId) → IsShaped s → u.0 < l
 kept_room s u l shaped lt within =
     let long : length (task_part s u).kept ≡ length s.locks = All-default (λ (task : TaskPart). length task.kept ≡ length s.locks) s.tasks u.0 _ shaped.kept (task_room s u shaped lt) in
     subst (λ (n : ℕ). l.0 < n) (sym long) within
+
+-- the reader part of a lock that is there
+pub readers_room : (s : State) (l : LockId) → IsShaped s → l.0 < length s.locks → l.0 < length s.readers
+readers_room s l shaped lt = subst (λ (n : ℕ). l.0 < n) (sym shaped.readers) lt

@@ -2,6 +2,7 @@
 pub mod Own
 pub mod Acquire
 pub mod Release
+pub mod Readers
 pub mod Wait
 pub mod Taking
 pub mod Walk

@@ -1,15 +1,19 @@
 -- Own: how it comes about.
-use Rattle.std.proofs.Common.{◌≡◌, ℕ, Bool, true, false, cond, refl, Some, None}
+use Rattle.std.proofs.Common.{◌≡◌, ℕ, Bool, true, false, cond, refl, Option, Some, None}
 use Rattle.std.specs.Prelude.{nat_lt}
 use Rattle.rt_base.specs.declared.call.Call.{Call}
+use Rattle.rt_base.specs.declared.call.Call.TheVariants as calls
+use Rattle.rt_base.specs.declared.id.LockId.{LockId}
 use Rattle.rt_base.specs.declared.id.TaskId.{TaskId}
+use Rattle.rt_base.specs.declared.kind.Kind.{Kind}
+use Rattle.rt_base.specs.declared.kind.Kind.TheVariants as locks
 use Rattle.rt_base.specs.declared.reply.Reply.{Reply}
 use Rattle.rt_base.specs.declared.reply.Reply.TheVariants as replies
 use Rattle.rt_model.specs.declared.event.Event.{Event}
 use Rattle.rt_model.specs.declared.phase.Phase.TheVariants as phases
 use Rattle.rt_model.specs.Choice.{called_lock}
 use Rattle.rt_model.specs.State.{State, thread_part}
-use Rattle.rt_model.specs.events.Own.{unless_nested, if_held, if_not_held, own_answer, own_event}
+use Rattle.rt_model.specs.events.Own.{unless_nested, if_held, if_not_held, private_answer, own_answer, own_event}
 use Rattle.rt_model.proofs.Calling.{IsIn}
 
 -- the thread answers at once
@@ -34,3 +38,20 @@ unheld false is = refl
 pub was_held : (held : Bool) → if_not_held held ≡ None → held ≡ true
 was_held true is = refl
 was_held false is = cc
+
+-- and so for a read and a write, of either kind
+pub read_unheld : (l : LockId) (kind : Option Kind) (nested : ℕ) (held : Bool) (migration : ℕ) → private_answer (calls.Read l) kind nested held migration ≡ None → held ≡ false
+read_unheld l None nested held migration is = unheld held is
+read_unheld l (Some locks.Mutex) nested held migration is = unheld held is
+read_unheld l (Some locks.Spin) nested held migration is = unheld held is
+read_unheld l (Some locks.RwLock) nested held migration is = unheld held is
+read_unheld l (Some locks.RwSem) nested held migration is = not_held nested held is
+read_unheld l (Some locks.Local) nested held migration is = unheld held is
+
+pub write_unheld : (l : LockId) (kind : Option Kind) (nested : ℕ) (held : Bool) (migration : ℕ) → private_answer (calls.Write l) kind nested held migration ≡ None → held ≡ false
+write_unheld l None nested held migration is = unheld held is
+write_unheld l (Some locks.Mutex) nested held migration is = unheld held is
+write_unheld l (Some locks.Spin) nested held migration is = unheld held is
+write_unheld l (Some locks.RwLock) nested held migration is = unheld held is
+write_unheld l (Some locks.RwSem) nested held migration is = not_held nested held is
+write_unheld l (Some locks.Local) nested held migration is = unheld held is

@@ -31,13 +31,13 @@ seen : (a b : Shared) (t : TaskId) (l : LockId) (f : OwnerPart → TaskPart → 
 seen a b t l f sees = (λ i. by_owner b f (sees.lock i) (sees.task i)) ∙ sees.event
 
 -- a take doesn't look at the owner
-sees-take_or : (a b : Shared) (t : TaskId) (l : LockId) (kind : Kind) (before after : Event) → (Alike before a b → Sees a b t l before after)
-    → Alike (take_or before t l kind (lock_in a l) (task_in a t)) a b
-    → Sees a b t l (take_or before t l kind (lock_in a l) (task_in a t)) (take_or after t l kind (lock_in a l) (task_in a t))
-sees-take_or a b t l kind before after other = by_test (can_take t kind (lock_in a l) (task_in a t))
+sees-take_or : (a b : Shared) (call : Option Call) (t : TaskId) (l : LockId) (kind : Kind) (before after : Event) → (Alike before a b → Sees a b t l before after)
+    → Alike (take_or before call t l kind (lock_in a l) (task_in a t)) a b
+    → Sees a b t l (take_or before call t l kind (lock_in a l) (task_in a t)) (take_or after call t l kind (lock_in a l) (task_in a t))
+sees-take_or a b call t l kind before after other = by_test (can_take t kind (lock_in a l) (task_in a t))
   where
     taken : Event
-    taken = take_event t l kind (lock_in a l) (task_in a t)
+    taken = take_event call t l kind (lock_in a l) (task_in a t)
 
     by_test : (c : Bool) → Alike (cond c taken before) a b → Sees a b t l (cond c taken before) (cond c taken after)
     by_test true alike = record { lock = alike.lock l (touches-lock taken l refl); task = alike.task t (touches-own taken t refl); event = refl }
@@ -55,12 +55,12 @@ sees-owner a b t l f e is lock own owner alike = record {
 
 -- ---- slow: it takes the lock, or is queued
 
-pub same-slow : (a b : Shared) (t : TaskId) (l : LockId) (kind : Kind) → Alike (slow_event t l kind (lock_in a l) (task_in a t) (task_at a (lock_in a l).owner)) a b
-    → slow_event t l kind (lock_in b l) (task_in b t) (task_at b (lock_in b l).owner) ≡ slow_event t l kind (lock_in a l) (task_in a t) (task_at a (lock_in a l).owner)
-same-slow a b t l kind alike =
+pub same-slow : (a b : Shared) (call : Option Call) (t : TaskId) (l : LockId) (kind : Kind) → Alike (slow_event call t l kind (lock_in a l) (task_in a t) (task_at a (lock_in a l).owner)) a b
+    → slow_event call t l kind (lock_in b l) (task_in b t) (task_at b (lock_in b l).owner) ≡ slow_event call t l kind (lock_in a l) (task_in a t) (task_at a (lock_in a l).owner)
+same-slow a b call t l kind alike =
     let waits : Shared → Event = λ (sh : Shared). wait_event t l (lock_in a l) (task_in a t) (task_at sh (lock_in a l).owner) in
     let waiting = sees-owner a b t l (wait_event t l (lock_in a l) (task_in a t)) (waits a) refl refl refl refl in
-    seen a b t l (slow_event t l kind) (sees-take_or a b t l kind (waits a) (waits b) waiting alike)
+    seen a b t l (slow_event call t l kind) (sees-take_or a b call t l kind (waits a) (waits b) waiting alike)
 
 -- ---- queued: it takes the lock where its task is awake, or leaves, or sleeps again
 
@@ -82,13 +82,13 @@ same-queued call t l kind a b e = by_test (is_awake call (task_in a t)) refl
         by_signal false alike = record { lock = alike.lock l (touches-lock (again_event t l) l refl); task = alike.task t (touches-own (again_event t l) t refl); event = refl }
 
     before : Event
-    before = take_or (refused a) t l kind (lock_in a l) (task_in a t)
+    before = take_or (refused a) call t l kind (lock_in a l) (task_in a t)
 
     by_test : (c : Bool) → is_awake call (task_in a t) ≡ c → cond c (Some before) None ≡ Some e → Alike e a b
         → queued_event call t l kind (lock_in b l) (task_in b t) (task_at b (lock_in b l).owner) ≡ Some e
     by_test true awake is alike =
         let event : before ≡ e = cc in
-        let both = sees-take_or a b t l kind (refused a) (refused b) sees (subst (λ (x : Event). Alike x a b) (sym event) alike) in
+        let both = sees-take_or a b call t l kind (refused a) (refused b) sees (subst (λ (x : Event). Alike x a b) (sym event) alike) in
         (λ i. if is_awake call (both.task i) then Some (seen a b t l (awake_event call t l kind) both i) else None)
         ∙ (ap (λ (c : Bool). cond c (Some before) None) awake ∙ is)
     by_test false asleep is alike = cc

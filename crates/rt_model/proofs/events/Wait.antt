@@ -14,7 +14,7 @@ use Rattle.rt_model.specs.Rows.{can_take}
 use Rattle.rt_model.specs.State.{State, shared, task_at, owner_part, task_part, thread_part}
 use Rattle.rt_model.specs.steps.Task.{runs}
 use Rattle.rt_model.specs.events.Wait.{wait_event, slow_event, leave_event, is_interrupted, is_awake, again_event, refused_event, awake_event, queued_event}
-use Rattle.rt_model.proofs.Calling.{IsIn, WaitsFor, by_lock, by_lockint, by_spin, Asks, asks-lock}
+use Rattle.rt_model.proofs.Calling.{IsIn, WaitsFor, by_lock, by_lockint, by_spin, by_read, by_write, Asks, asks-lock}
 use Rattle.rt_model.proofs.events.Acquire.{IsTake, from_slow, from_wait, taken_or}
 
 -- ---- how they come about
@@ -46,7 +46,7 @@ pub data IsWaiting (s : State) (t : TaskId) (l : LockId) (e : Event) : Type 0 wh
   is_leave : IsLeave s t l e → IsWaiting s t l e
 
 pub slowed : (s : State) (t : TaskId) (l : LockId) (e : Event) → Asks s t phases.Slow l
-    → slow_event t l (kind_of (thread_part s t) l) (owner_part s l) (task_part s t) (task_at (shared s) (owner_part s l).owner) ≡ e → IsTake s t l e ⊎ IsWaiting s t l e
+    → slow_event (call_of (thread_part s t)) t l (kind_of (thread_part s t) l) (owner_part s l) (task_part s t) (task_at (shared s) (owner_part s l).owner) ≡ e → IsTake s t l e ⊎ IsWaiting s t l e
 slowed s t l e asks is = either (taken_or s t l (wait_event t l (owner_part s l) (task_part s t) (task_at (shared s) (owner_part s l).owner)) e (from_slow asks) asks.at.task (asks-lock s t phases.Slow l asks) is)
   where
     either : IsTake s t l e ⊎ ((can_take t (kind_of (thread_part s t) l) (owner_part s l) (task_part s t) ≡ false) × (e ≡ wait_event t l (owner_part s l) (task_part s t) (task_at (shared s) (owner_part s l).owner))) → IsTake s t l e ⊎ IsWaiting s t l e
@@ -74,6 +74,8 @@ interrupted-asks s t phase l asks is = by_call asks.waits_for
     by_call : WaitsFor asks.call l → IsInterrupted s t phase l
     by_call (by_lock same) = let never : false ≡ true = told (calls.Lock l) same in absurd cc
     by_call (by_spin same) = let never : false ≡ true = told (calls.Spin l) same in absurd cc
+    by_call (by_read same) = let never : false ≡ true = told (calls.Read l) same in absurd cc
+    by_call (by_write same) = let never : false ≡ true = told (calls.Write l) same in absurd cc
     by_call (by_lockint same) = record { at = subst (IsIn s t phase) same asks.at; signal = told (calls.LockInt l) same }
 
 refused : (s : State) (t : TaskId) (l : LockId) (e : Event) → Asks s t phases.Wait l → is_awake (call_of (thread_part s t)) (task_part s t) ≡ true → can_take t (kind_of (thread_part s t) l) (owner_part s l) (task_part s t) ≡ false

@@ -9,11 +9,11 @@ use Rattle.rt_model.specs.declared.phase.Phase.TheVariants.{Confirm}
 use Rattle.rt_model.specs.declared.row.Row.{Row}
 use Rattle.rt_model.specs.Parts.{TaskPart}
 use Rattle.rt_model.specs.Rows.{queued_key, top_key}
+use Rattle.rt_model.specs.Choice.{present_lock}
 use Rattle.rt_model.specs.State.{State, shared, owner_part, task_part, thread_part}
 use Rattle.rt_model.specs.Path.{Link, first_task, first_lock, first_owner, links_of, is_blocked_on, keeps_top, stands, first_broken, Edge, IsCycle}
 use Rattle.rt_model.specs.laws.KeptTops.{KeptTopsLaw}
 use Rattle.rt_model.specs.laws.Owners.{owned_by}
-use Rattle.rt_model.specs.laws.Queued.{present_lock}
 use Rattle.rt_model.specs.laws.Rows.{key_at, RowsLaw}
 use Rattle.rt_model.specs.laws.Walks.{IsToConfirm, IsWalkOf, WalksLaw}
 use Rattle.rt_model.proofs.Numbers.{same_task, same_lock, number_itself}

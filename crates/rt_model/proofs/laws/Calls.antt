@@ -124,11 +124,11 @@ own-of s t _ answer e is = absurd is.at.served
 walk-can : (next : Option Phase) (call : Call) (answer : Reply) → IsToCome call answer → can_have call kinds.Walk (answer_of_walk (Short answer) next) ≡ true
 walk-can next call answer to_come =
     let Can : Option Reply → Call → Type 0 = λ reply c. can_have c kinds.Walk reply ≡ true in
-    answered-holds (λ reply. Can reply call) answer next (to_come-holds (λ c a. Can (Some a) c) call answer to_come (λ l. refl) (λ l. refl) (λ l. refl) (λ l. refl) (λ v prio. refl))
-    (to_come-holds (λ c a. Can None c) call answer to_come (λ l. refl) (λ l. refl) (λ l. refl) (λ l. refl) (λ v prio. refl))
+    answered-holds (λ reply. Can reply call) answer next (to_come-holds (λ c a. Can (Some a) c) call answer to_come (λ l. refl) (λ l. refl) (λ l. refl) (λ l. refl) (λ l. refl) (λ l. refl) (λ v prio. refl))
+    (to_come-holds (λ c a. Can None c) call answer to_come (λ l. refl) (λ l. refl) (λ l. refl) (λ l. refl) (λ l. refl) (λ l. refl) (λ v prio. refl))
 
 walkend-can : (call : Call) (answer : Reply) → IsToCome call answer → can_have call kinds.WalkEnd (Some answer) ≡ true
-walkend-can call answer to_come = to_come-holds (λ c a. can_have c kinds.WalkEnd (Some a) ≡ true) call answer to_come (λ l. refl) (λ l. refl) (λ l. refl) (λ l. refl) (λ v prio. refl)
+walkend-can call answer to_come = to_come-holds (λ c a. can_have c kinds.WalkEnd (Some a) ≡ true) call answer to_come (λ l. refl) (λ l. refl) (λ l. refl) (λ l. refl) (λ l. refl) (λ l. refl) (λ v prio. refl)
 
 -- a wakeup and a signal say whether they woke
 waking-can : (woke : Bool) → can_have_waking kinds.Wake (Some (cond woke replies.Woke replies.Missed)) ≡ true

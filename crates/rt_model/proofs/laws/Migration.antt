@@ -141,7 +141,7 @@ own-counted thread _ _ is = tt
 -- a walk's answer changes none
 walk-counted : (thread : ThreadPart) (call : Call) (answer : Reply) (next : Option Phase) → IsToCome call answer → IfSome (answer_of_walk (Short answer) next) (Counted thread call)
 walk-counted thread call answer next to_come =
-    answered-holds (λ reply. IfSome reply (Counted thread call)) answer next (to_come-holds (λ c a. Counted thread c a) call answer to_come (λ l. tt) (λ l. tt) (λ l. tt) (λ l. tt) (λ u prio. tt)) tt
+    answered-holds (λ reply. IfSome reply (Counted thread call)) answer next (to_come-holds (λ c a. Counted thread c a) call answer to_come (λ l. tt) (λ l. tt) (λ l. tt) (λ l. tt) (λ l. tt) (λ l. tt) (λ u prio. tt)) tt
 
 module _ (s : State) (t : TaskId) where
   -- a call that isn't answered yet, and one of which no answer counts

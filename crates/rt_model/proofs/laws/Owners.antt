@@ -97,7 +97,7 @@ holds_at thread call answer is = ap (λ (c : Option Call). holds_after thread c 
 
 -- nor does the answer of a short walk
 short_holds : (thread : ThreadPart) (u : TaskId) (answer : Reply) (call : Option Call) → IsPhaseOf (phases.Walk u (Short answer)) call → holds_after thread call answer ≡ thread.holds
-short_holds thread u answer (Some call) fits = to_come-holds (λ c a. holds_after thread (Some c) a ≡ thread.holds) call answer fits (λ l. refl) (λ l. refl) (λ l. refl) (λ l. refl) (λ v prio. refl)
+short_holds thread u answer (Some call) fits = to_come-holds (λ c a. holds_after thread (Some c) a ≡ thread.holds) call answer fits (λ l. refl) (λ l. refl) (λ l. refl) (λ l. refl) (λ l. refl) (λ l. refl) (λ v prio. refl)
 short_holds thread u answer None fits = absurd fits
 
 -- so a walk leaves what its thread holds

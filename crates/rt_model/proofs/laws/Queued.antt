@@ -12,6 +12,7 @@ use Rattle.rt_model.specs.declared.phase.Phase.TheVariants as phases
 use Rattle.rt_model.specs.declared.phase.Route.{Route}
 use Rattle.rt_model.specs.declared.phase.Route.TheVariants.{Short}
 use Rattle.rt_model.specs.Parts.{OwnerPart, TaskPart, ThreadPart}
+use Rattle.rt_model.specs.Choice.{present_lock}
 use Rattle.rt_model.specs.State.{State, shared, owner_part, task_part, thread_part}
 use Rattle.rt_model.specs.Effect.{Around, around}
 use Rattle.rt_model.specs.Rules.{touched, effect}
@@ -21,7 +22,7 @@ use Rattle.rt_model.specs.steps.Chain.{followed, goes_on}
 use Rattle.rt_model.specs.steps.Task.{with_own}
 use Rattle.rt_model.specs.laws.Lawful.{IsLawful}
 use Rattle.rt_model.specs.laws.Owners.{owned_by}
-use Rattle.rt_model.specs.laws.Queued.{QueuedLaw, present_lock, awaited_in, asked_in}
+use Rattle.rt_model.specs.laws.Queued.{QueuedLaw, awaited_in, asked_in}
 use Rattle.rt_model.proofs.Blocked.{moves, changes_own, blocking-other, blocking-kept, blocked-kept, take-blocked, wait-blocked}
 use Rattle.rt_model.proofs.Calling.{asks-present}
 use Rattle.rt_model.proofs.Calm.{wakeup-at, wakeup-start, wakeup-blocked}

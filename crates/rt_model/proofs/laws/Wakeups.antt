@@ -143,7 +143,7 @@ quiet-own m n _ kind nested held migration served = absurd served
 
 -- a walk's answer is one that was to come
 quiet-to_come : (call : Call) (answer : Reply) → IsToCome call answer → Quiet (Some answer)
-quiet-to_come call answer to_come = to_come-holds (λ c a. Quiet (Some a)) call answer to_come (λ l. refl) (λ l. refl) (λ l. refl) (λ l. refl) (λ u prio. refl)
+quiet-to_come call answer to_come = to_come-holds (λ c a. Quiet (Some a)) call answer to_come (λ l. refl) (λ l. refl) (λ l. refl) (λ l. refl) (λ l. refl) (λ l. refl) (λ u prio. refl)
 
 quiet-walk : (s : State) (t : TaskId) (route : Route) (u : TaskId) (next : Option Phase) → WalksIn s t route u → Quiet (answer_of_walk route next)
 quiet-walk s t route u next (by_full path l same asks) = subst (λ (r : Route). Quiet (answer_of_walk r next)) (sym same) (quiet-full next)

@@ -14,6 +14,7 @@ use Rattle.rt_model.specs.declared.phase.Phase.TheVariants as phases
 use Rattle.rt_model.specs.declared.phase.Route.{Route}
 use Rattle.rt_model.specs.declared.phase.Route.TheVariants.{Full, Short}
 use Rattle.rt_model.specs.Parts.{TaskPart, ThreadPart}
+use Rattle.rt_model.specs.Choice.{present_lock}
 use Rattle.rt_model.specs.State.{State, shared, owner_part, task_part, thread_part}
 use Rattle.rt_model.specs.Rules.{touched}
 use Rattle.rt_model.specs.StateAfter.{effect_in, thread_after, state_after}
@@ -22,7 +23,7 @@ use Rattle.rt_model.specs.steps.Chain.{followed, goes_on}
 use Rattle.rt_model.specs.steps.Task.{with_own}
 use Rattle.rt_model.specs.laws.Lawful.{IsLawful}
 use Rattle.rt_model.specs.laws.Owners.{owned_by}
-use Rattle.rt_model.specs.laws.Queued.{present_lock, awaited_in}
+use Rattle.rt_model.specs.laws.Queued.{awaited_in}
 use Rattle.rt_model.specs.laws.Walks.{IsFullWalk, IsWalkOf, WalksLaw}
 use Rattle.rt_model.proofs.Calling.{asks-present, asks-lock}
 use Rattle.rt_model.proofs.Calm.{wakeup-threads}

@@ -1,5 +1,8 @@
 -- Steps on the reader part of a reader/writer lock.
-use Rattle.std.specs.Prelude.{◌+◌, ◌-◌, Bool, true, false, not, ◌&&◌, nat_eq, if◌then◌else◌}
+use Rattle.std.specs.Prelude.{◌≡◌, ℕ, ◌+◌, ◌-◌, ◌<◌, Bool, true, false, not, ◌&&◌, nat_eq, if◌then◌else◌}
+use Rattle.rt_base.specs.declared.limits.TheConstants.{MAX_CALLS}
+use Rattle.rt_model.specs.declared.event_kind.EventKind.{EventKind}
+use Rattle.rt_model.specs.declared.event_kind.EventKind.TheVariants as kinds
 use Rattle.rt_model.specs.declared.reader_cell.ReaderCell.{ReaderCell}
 
 -- ---- readers
@@ -41,3 +44,15 @@ opened cell = record cell { bias = true; writer = false }
 -- and where it downgrades, it stays as a reader
 abbrev pub without_writer : Bool → ReaderCell → ReaderCell
 without_writer reader cell = if reader then with_reader (opened cell) else opened cell
+
+-- ---- what each step asks of the reader part that it finds
+
+-- a reader comes where no writer is in, and leaves where one is in; a writer on its way removes a bias that is set, comes where none is
+-- in and nobody reads, and leaves with the bias off; who stays as a reader was in. The number 1 tells that
+abbrev pub CanStep : EventKind → ℕ → ReaderCell → Type 0
+CanStep kinds.RIn value cell = (can_read cell ≡ true) × (cell.count < MAX_CALLS)
+CanStep kinds.ROut value cell = 0 < cell.count
+CanStep kinds.Unbias value cell = cell.bias ≡ true
+CanStep kinds.WTake value cell = (cell.bias ≡ false) × (cell.writer ≡ false) × (can_write cell ≡ true)
+CanStep kinds.WOpen value cell = (cell.bias ≡ false) × (nat_eq value 1 ≡ true → (cell.writer ≡ true) × (cell.count < MAX_CALLS))
+CanStep _ value cell = Unit {0}

@@ -25,6 +25,7 @@ pub mod Uninvolved
 pub mod Within
 pub mod Inside
 pub mod Waiters
+pub mod Idle
 pub mod PathLinks
 pub mod Named
 -- what a link of a walk leaves, a walk's end, a restart, a signal and a setprio, and a wait that ends without the lock; how a walk

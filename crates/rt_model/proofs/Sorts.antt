@@ -7,7 +7,8 @@ use Rattle.rt_model.specs.declared.event_kind.EventKind.{EventKind}
 use Rattle.rt_model.specs.declared.event_kind.EventKind.TheVariants as kinds
 use Rattle.rt_model.specs.State.{State}
 use Rattle.rt_model.specs.Path.{Link}
-use Rattle.rt_model.proofs.NextEvents.{IsNext, by_own, by_acquire, by_wait, by_release, by_walk, by_confirm, by_wakeup, by_setprio}
+use Rattle.rt_model.proofs.NextEvents.{IsNext, by_own, by_acquire, by_wait, by_release, by_reading, by_walk, by_confirm, by_wakeup, by_setprio}
+use Rattle.rt_model.proofs.Reading.{reading-kind}
 use Rattle.rt_model.proofs.events.Acquire.{is_fast, is_mark, is_take, is_busy}
 use Rattle.rt_model.proofs.events.Release.{is_free, is_give}
 use Rattle.rt_model.proofs.events.Wait.{IsLeave, is_wait, is_again, is_leave}
@@ -41,6 +42,7 @@ sort s t e (by_wait l (is_again is)) = unsorted (sorts e _ is.event refl)
 sort s t e (by_wait l (is_leave is)) = heeds l is
 sort s t e (by_release l (is_free is)) = unsorted (sorts e _ is.event refl)
 sort s t e (by_release l (is_give is)) = unsorted (sorts e _ is.event refl)
+sort s t e (by_reading l is) = unsorted (reading-kind (λ kind. is_sorted kind ≡ false) s t l e is (record { rin = refl; busy = refl; rout = refl; wwake = refl; unbias = refl; wtake = refl; wsleep = refl; wopen = refl }))
 sort s t e (by_walk route u (is_walk l key is)) = unsorted (sorts e _ is.event refl)
 sort s t e (by_walk route u (is_walkend is)) = unsorted (sorts e _ is.event refl)
 sort s t e (by_confirm l path (is_restart link is)) = begins l path link is

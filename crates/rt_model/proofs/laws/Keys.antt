@@ -30,22 +30,25 @@ use Rattle.rt_model.specs.laws.Keys.{StandsAt, IsConfirming, IsNamed, KeysLaw}
 use Rattle.rt_model.specs.laws.Lawful.{IsLawful}
 use Rattle.rt_model.specs.laws.Owners.{owned_by}
 use Rattle.rt_model.proofs.Blocked.{blocked-other}
-use Rattle.rt_model.proofs.CellStepLemmas.{IsWoken, effective-like, leave_queue-blocked, with_top-blocked, woken_by-like, lock_woken-like, blocked_on-like, right_key}
+use Rattle.rt_model.proofs.CellStepLemmas.{IsWoken, effective-like, leave_queue-blocked, with_top-blocked, woken_by-like, lock_woken-like, blocked_on-like, restored-like, writer_rests-like, right_key}
 use Rattle.rt_model.proofs.Calling.{asks-lock}
 use Rattle.rt_model.proofs.Calm.{wakeup-kind, wakeup-task, wakeup-at}
+use Rattle.rt_model.proofs.Idle.{IsIdle, asks-idle, acquires-idle, returns-idle, idle-unblocked}
 use Rattle.rt_model.proofs.Leaves.{IsLeft, by_leave, by_cycle, leave-left, cycle-left, left-is, left_answer, left_phase, left-asks, left-own_blocked, left-others, left-thread_own}
 use Rattle.rt_model.proofs.Links.{walked_thread, link_owner, link_woken, link-task, link-thread, end-task, setprio-task, setprio-thread}
 use Rattle.rt_model.proofs.Lists.{if_some, if_found}
-use Rattle.rt_model.proofs.NextEvents.{IsNext, by_own, by_acquire, by_wait, by_release, by_walk, by_confirm, by_wakeup, by_setprio}
-use Rattle.rt_model.proofs.events.Acquire.{AcquiresIn, by_lock, by_trying, TakesIn, from_slow, from_wait, from_trying, is_fast, is_mark, is_take, is_busy}
+use Rattle.rt_model.proofs.NextEvents.{IsNext, by_own, by_acquire, by_wait, by_release, by_reading, by_walk, by_confirm, by_wakeup, by_setprio}
+use Rattle.rt_model.proofs.events.Acquire.{TakesIn, from_slow, from_wait, from_trying, is_fast, is_mark, is_take, is_busy}
 use Rattle.rt_model.proofs.events.Wait.{IsWait, is_wait, is_again, is_leave}
 use Rattle.rt_model.proofs.events.Release.{IsGive, is_free, is_give}
 use Rattle.rt_model.proofs.events.Walk.{WalksIn, IsWalk, IsWalkEnd, is_walk, is_walkend, IsRestart, is_restart, is_cycle}
+use Rattle.rt_model.proofs.events.Readers.{reading-task}
 use Rattle.rt_model.proofs.events.Wakeups.{IsSetPrio}
 use Rattle.rt_model.proofs.Numbers.{at_each_task, same_task, other_number, owner-is}
 use Rattle.rt_model.proofs.PartsAfter.{OthersKeep, task-keeps, own-made, owner-made, thread-own, thread-other}
+use Rattle.rt_model.proofs.Reading.{is_idle, reading-kind, reading-was_idle}
 use Rattle.rt_model.proofs.Routes.{walked-phase}
-use Rattle.rt_model.proofs.Waiters.{start-blocked, slow-unowned, walk-phase}
+use Rattle.rt_model.proofs.Waiters.{slow-unowned, walk-phase}
 use Rattle.rt_model.proofs.Within.{task_room, owner_room}
 
 -- ---- who is named
@@ -176,6 +179,8 @@ key-own kinds.Give e th is found lock task was = cc
 key-own kinds.Take e th is found lock task was =
     let left : TaskPart = leave_queue (spins (kind_named th e.lock)) task in
     unblocked-key (with_top e.lock (top_key lock.rows) left) (with_top-blocked e.lock (top_key lock.rows) left ∙ leave_queue-blocked (spins (kind_named th e.lock)) task)
+key-own kinds.WTake e th is found lock task was = woken-key (restored-like (spins (kind_named th e.lock)) task) was
+key-own kinds.WSleep e th is found lock task was = woken-key (writer_rests-like th.phase (rest_of (kind_named th e.lock) (call_of th)) task) was
 key-own _ e th is found lock task was = was
 
 key-others : (kind : EventKind) (e : Event) (th : ThreadPart) → keeps_keys kind ≡ true → (found : Around) (lock : OwnerPart) → OthersKeep HasKey (effect kind e th found) lock
@@ -186,6 +191,7 @@ key-others kinds.Give e th is found lock = cc
 key-others kinds.Walk e th is found lock = cc
 key-others kinds.SetPrio e th is found lock = cc
 key-others kinds.Wake e th is found lock = record { owner = λ task was. was; other = λ task was. woken-key (woken_by-like e.value task) was; woken = λ task was. was }
+key-others kinds.WWake e th is found lock = record { owner = λ task was. was; other = λ task was. was; woken = λ task was. woken-key (lock_woken-like (spins (kind_named th e.lock)) task) was }
 key-others _ e th is found lock = record { owner = λ task was. was; other = λ task was. was; woken = λ task was. was }
 
 -- ---- the law
@@ -197,9 +203,13 @@ at_phase s t u phase is never names = never (subst (Names t u) is names)
 at_walk : (s : State) (t u v : TaskId) (route : Route) → WalksIn s t route v → nat_eq v.0 u.0 ≡ false → Names t u (thread_part s t).phase → ⊥
 at_walk s t u v route how other = at_phase s t u (phases.Walk v route) (walk-phase s t route v how) (λ same. other_number v.0 u.0 other (ap (λ (w : TaskId). w.0) same))
 
-acquires_at : (s : State) (t u : TaskId) (l : LockId) → AcquiresIn s t l → Names t u (thread_part s t).phase → ⊥
-acquires_at s t u l (by_lock is unheld) = at_phase s t u phases.Start is.at.phased (λ never. never)
-acquires_at s t u l (by_trying at) = at_phase s t u phases.Start at.at.phased (λ never. never)
+idle_names : (t u : TaskId) (phase : Phase) → is_idle phase ≡ true → Names t u phase → ⊥
+idle_names t u (phases.Walk cursor route) idle names = cc
+idle_names t u (phases.Confirm path) idle names = cc
+idle_names t u _ idle names = names
+
+at_idle : (s : State) (t u : TaskId) → IsIdle s t → Names t u (thread_part s t).phase → ⊥
+at_idle s t u idle = idle_names t u (thread_part s t).phase idle
 
 takes_at : (s : State) (t u : TaskId) (l : LockId) → TakesIn s t l → Names t u (thread_part s t).phase → ⊥
 takes_at s t u l (from_slow is) = at_phase s t u phases.Slow is.at.phased (λ never. never)
@@ -251,10 +261,10 @@ module _ (s : State) (made : ℕ) (t : TaskId) (e : Event) (u : TaskId) (lawful 
   -- who gives a lock up isn't blocked
   give-key : (l : LockId) → IsGive s t l e → HasKey (task_part (state_after s e) u)
   give-key l is =
-      own-made (λ v. HasKey) s e _ t u is.event refl (task_room s t lawful.shape is.at.at.task)
+      own-made (λ v. HasKey) s e _ t u is.event refl (task_room s t lawful.shape is.at.task)
       (record { owner = λ task was. was; other = λ task was. was; woken = λ task was. woken-key (lock_woken-like (spins (kind_of (thread_part s t) l)) task) was })
-      (unblocked-key (with_top (Some l) None (task_part s t)) (start-blocked s made t lawful is.at.call is.at.at))
-      (λ others. key (ap (λ (x : Event). x.task) is.event) (at_phase s t u phases.Start is.at.at.phased (λ never. never)))
+      (unblocked-key (with_top (Some l) None (task_part s t)) (idle-unblocked s made t lawful (returns-idle s t l is.at)))
+      (λ others. key (ap (λ (x : Event). x.task) is.event) (at_idle s t u (returns-idle s t l is.at)))
 
   -- a link queues its cursor with its priority, and goes on to the owner, whose priority may change, where its key is old
   link-key : (route : Route) (v : TaskId) (l : LockId) (old : ℕ) → IsWalk s t route v l old e → HasKey (task_part (state_after s e) u)
@@ -350,14 +360,17 @@ KeysLaw-next s made t e lawful next u unnamed = by_kind next
   where
     by_kind : IsNext s t e → HasKey (task_part (state_after s e) u)
     by_kind (by_own call answer is) = kept-key s made t e u lawful unnamed _ is.event refl (at_phase s t u phases.Start is.at.phased (λ never. never)) refl
-    by_kind (by_acquire l (is_fast is)) = kept-key s made t e u lawful unnamed _ is.event refl (acquires_at s t u l is.how) refl
-    by_kind (by_acquire l (is_mark is)) = kept-key s made t e u lawful unnamed _ is.event refl (at_phase s t u phases.Start is.at.at.phased (λ never. never)) refl
+    by_kind (by_acquire l (is_fast is)) = kept-key s made t e u lawful unnamed _ is.event refl (at_idle s t u (acquires-idle s t l is.how)) refl
+    by_kind (by_acquire l (is_mark is)) = kept-key s made t e u lawful unnamed _ is.event refl (at_idle s t u (asks-idle s t l is.how)) refl
     by_kind (by_acquire l (is_take is)) = kept-key s made t e u lawful unnamed _ is.event refl (takes_at s t u l is.how) refl
     by_kind (by_acquire l (is_busy is)) = kept-key s made t e u lawful unnamed _ is.event refl (at_phase s t u phases.Start is.at.at.phased (λ never. never)) refl
     by_kind (by_wait l (is_wait is)) = wait-key s made t e u lawful unnamed l is
     by_kind (by_wait l (is_again is)) = kept-key s made t e u lawful unnamed _ is.event refl (at_phase s t u phases.Wait is.at.at.phased (λ never. never)) refl
-    by_kind (by_release l (is_free is)) = kept-key s made t e u lawful unnamed _ is.event refl (at_phase s t u phases.Start is.at.at.phased (λ never. never)) refl
+    by_kind (by_release l (is_free is)) = kept-key s made t e u lawful unnamed _ is.event refl (at_idle s t u (returns-idle s t l is.at)) refl
     by_kind (by_release l (is_give is)) = give-key s made t e u lawful unnamed l is
+    by_kind (by_reading l is) =
+        kept-key s made t e u lawful unnamed e refl (reading-task s t l e is) (at_idle s t u (reading-was_idle s t l e is))
+        (reading-kind (λ kind. keeps_keys kind ≡ true) s t l e is (record { rin = refl; busy = refl; rout = refl; wwake = refl; unbias = refl; wtake = refl; wsleep = refl; wopen = refl }))
     by_kind (by_walk route v (is_walk l old is)) = link-key s made t e u lawful unnamed route v l old is
     by_kind (by_walk route v (is_walkend is)) = end-key s made t e u lawful unnamed route v is
     by_kind (by_wait l (is_leave is)) = left-key s made t e u lawful unnamed l (leave-left s t l e is)

@@ -17,9 +17,10 @@ use Rattle.rt_model.specs.StateAfter.{state_after}
 use Rattle.rt_model.specs.laws.Lawful.{IsLawful}
 use Rattle.rt_model.specs.laws.OwnPriorities.{OwnPrioritiesLaw}
 use Rattle.rt_model.proofs.Calm.{wakeup-kind}
-use Rattle.rt_model.proofs.CellStepLemmas.{IsLike, leave_queue-like, interrupted-like, woken_by-like, lock_woken-like, blocked_on-like, where_changed}
-use Rattle.rt_model.proofs.NextEvents.{IsNext, by_own, by_acquire, by_wait, by_release, by_walk, by_confirm, by_wakeup, by_setprio}
+use Rattle.rt_model.proofs.CellStepLemmas.{IsLike, leave_queue-like, interrupted-like, woken_by-like, lock_woken-like, blocked_on-like, restored-like, writer_rests-like, where_changed}
+use Rattle.rt_model.proofs.NextEvents.{IsNext, by_own, by_acquire, by_wait, by_release, by_reading, by_walk, by_confirm, by_wakeup, by_setprio}
 use Rattle.rt_model.proofs.PartsAfter.{OthersKeep, task-keeps}
+use Rattle.rt_model.proofs.Reading.{reading-kind}
 use Rattle.rt_model.proofs.events.Acquire.{is_fast, is_mark, is_take, is_busy}
 use Rattle.rt_model.proofs.events.Wait.{is_wait, is_again, is_leave}
 use Rattle.rt_model.proofs.events.Release.{is_free, is_give}
@@ -52,6 +53,8 @@ range-own kinds.Wait e th found lock task was = range-like (blocked_on-like e.lo
 range-own kinds.Leave e th found lock task was = range-like (interrupted-like (spins (kind_named th e.lock)) task) was
 range-own kinds.Cycle e th found lock task was = range-like (leave_queue-like (spins (kind_named th e.lock)) task) was
 range-own kinds.Give e th found lock task was = range-with_top e.lock None task was
+range-own kinds.WTake e th found lock task was = range-like (restored-like (spins (kind_named th e.lock)) task).like was
+range-own kinds.WSleep e th found lock task was = range-like (writer_rests-like th.phase (rest_of (kind_named th e.lock) (call_of th)) task).like was
 range-own _ e th found lock task was = was
 
 range-others : (kind : EventKind) (e : Event) (th : ThreadPart) (found : Around) (lock : OwnerPart) → SetsWithin kind e.value → OthersKeep IsInRange (effect kind e th found) lock
@@ -60,6 +63,7 @@ range-others kinds.Leave e th found lock sets = record { owner = range-with_top 
 range-others kinds.Cycle e th found lock sets = record { owner = range-with_top e.lock (top_key lock.rows); other = λ task was. was; woken = λ task was. was }
 range-others kinds.Wake e th found lock sets = record { owner = λ task was. was; other = λ task was. range-like (woken_by-like e.value task).like was; woken = λ task was. was }
 range-others kinds.Give e th found lock sets = record { owner = λ task was. was; other = λ task was. was; woken = λ task was. range-like (lock_woken-like (spins (kind_named th e.lock)) task).like was }
+range-others kinds.WWake e th found lock sets = record { owner = λ task was. was; other = λ task was. was; woken = λ task was. range-like (lock_woken-like (spins (kind_named th e.lock)) task).like was }
 range-others kinds.Walk e th found lock sets = record {
   owner = λ task was. where_changed IsInRange e.lock found.lock.rows lock.rows task was (range-with_top e.lock (top_key lock.rows) task was);
   other = λ task was. was;
@@ -89,6 +93,7 @@ sets-within s t e next = by_kind next
     by_kind (by_wait l (is_leave is)) = written _ is.event tt
     by_kind (by_release l (is_free is)) = written _ is.event tt
     by_kind (by_release l (is_give is)) = written _ is.event tt
+    by_kind (by_reading l is) = reading-kind (λ kind. SetsWithin kind e.value) s t l e is (record { rin = tt; busy = tt; rout = tt; wwake = tt; unbias = tt; wtake = tt; wsleep = tt; wopen = tt })
     by_kind (by_walk route u (is_walk l key is)) = written _ is.event tt
     by_kind (by_walk route u (is_walkend is)) = written _ is.event tt
     by_kind (by_confirm l path (is_restart link is)) = written _ is.event tt

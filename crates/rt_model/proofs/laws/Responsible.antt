@@ -22,15 +22,17 @@ use Rattle.rt_model.proofs.Blocked.{changes_own, blocking-other, blocking-kept, 
 use Rattle.rt_model.proofs.Calling.{IsIn}
 use Rattle.rt_model.proofs.Calm.{wakeup-kind, wakeup-at}
 use Rattle.rt_model.proofs.CellStepLemmas.{where_changed-blocked}
+use Rattle.rt_model.proofs.Idle.{IsIdle, asks-idle, acquires-idle, returns-idle, idle-unblocked}
 use Rattle.rt_model.proofs.Leaves.{IsLeft, leave-left, cycle-left, left-own_blocked, left-locks}
 use Rattle.rt_model.proofs.Links.{link_lock, link_owner, link_next, link-thread}
-use Rattle.rt_model.proofs.NextEvents.{IsNext, by_own, by_acquire, by_wait, by_release, by_walk, by_confirm, by_wakeup, by_setprio, task-IsNext}
+use Rattle.rt_model.proofs.NextEvents.{IsNext, by_own, by_acquire, by_wait, by_release, by_reading, by_walk, by_confirm, by_wakeup, by_setprio, task-IsNext}
 use Rattle.rt_model.proofs.Numbers.{at_each_task}
 use Rattle.rt_model.proofs.Owned.{changes_owner, owners-kept}
 use Rattle.rt_model.proofs.PartsAfter.{lock-made, thread-own, thread-other}
+use Rattle.rt_model.proofs.Reading.{reading-kind, reading-was_idle}
 use Rattle.rt_model.proofs.Routes.{walked-phase}
 use Rattle.rt_model.proofs.Waiters.{blocking, not_blocking, start-blocked, awaited}
-use Rattle.rt_model.proofs.events.Acquire.{IsAcquire, AcquiresIn, by_lock, by_trying, is_fast, is_mark, is_take, is_busy}
+use Rattle.rt_model.proofs.events.Acquire.{IsAcquire, is_fast, is_mark, is_take, is_busy}
 use Rattle.rt_model.proofs.events.Release.{IsRelease, is_free, is_give}
 use Rattle.rt_model.proofs.events.Wait.{IsWait, is_wait, is_again, is_leave}
 use Rattle.rt_model.proofs.events.Walk.{WalksIn, by_full, by_short, IsWalk, is_walk, IsWalkEnd, is_walkend, is_restart, is_cycle}
@@ -88,7 +90,10 @@ module _ (s : State) (made : ℕ) (t : TaskId) (e : Event) (lawful : IsLawful s 
       new_owner : (l : LockId) (o : TaskId) → (owner_part (state_after s e) l).owner ≡ Some o → ((owner_part s l).owner ≡ Some o) ⊎ ((task_part (state_after s e) o).blocked ≡ None)
       new_owner l o is = by_owner l o (owners l o is)
 
-  -- an event of a task that isn't blocked, which comes about as x
+  -- an event of a task that isn't blocked, which comes about as x; so is each of an idle one
+  unblocked_idle : IsIdle s t → (task_part s t).blocked ≡ None
+  unblocked_idle = idle-unblocked s made t lawful
+
   free : (x : Event) → e ≡ x → changes_own x.kind ≡ false → (task_part s t).blocked ≡ None → (task_part (state_after s e) t).blocked ≡ None
   free x is unmoved none = not_blocking (task_part (state_after s e) t).blocked (blocking-kept s e x t is unmoved ∙ ap blocking none)
 
@@ -111,26 +116,19 @@ module _ (s : State) (made : ℕ) (t : TaskId) (e : Event) (lawful : IsLawful s 
 
   -- ---- family by family
 
-  of_owner : (x : Event) (l : LockId) (owner : Option TaskId) (call : Call) → e ≡ x → IsIn s t phases.Start call → changes_own x.kind ≡ false → (touched x.kind x).lock ≡ Some l → l.0 < length s.locks
+  of_owner : (x : Event) (l : LockId) (owner : Option TaskId) → e ≡ x → IsIdle s t → changes_own x.kind ≡ false → (touched x.kind x).lock ≡ Some l → l.0 < length s.locks
       → ((effect_in (shared s) (thread_part s x.task) x).lock (owner_part s l)).owner ≡ owner → ((o : TaskId) → owner ≡ Some o → o ≡ t) → ResponsibleLaw (state_after s e)
-  of_owner x l owner call is at unmoved named lt here own = goes (free x is unmoved (start-blocked s made t lawful call at)) (owned x l owner is named lt here own)
+  of_owner x l owner is idle unmoved named lt here own = goes (free x is unmoved (unblocked_idle idle)) (owned x l owner is named lt here own)
 
   of_acquire : (l : LockId) → IsAcquire s t l e → ResponsibleLaw (state_after s e)
-  of_acquire l (is_fast is) = by_call is.how
-    where
-      its : (o : TaskId) → Some t ≡ Some o → o ≡ t
-      its o some = cc
-
-      by_call : AcquiresIn s t l → ResponsibleLaw (state_after s e)
-      by_call (by_lock asks unheld) = of_owner _ l (Some t) asks.call is.event asks.at refl refl is.lock refl its
-      by_call (by_trying at) = of_owner _ l (Some t) at.call is.event at.at refl refl is.lock refl its
-  of_acquire l (is_mark is) = stays _ is.event refl refl (start-blocked s made t lawful is.at.call is.at.at)
+  of_acquire l (is_fast is) = of_owner _ l (Some t) is.event (acquires-idle s t l is.how) refl refl is.lock refl (λ o some. cc)
+  of_acquire l (is_mark is) = stays _ is.event refl refl (unblocked_idle (asks-idle s t l is.how))
   of_acquire l (is_take is) = goes (take-blocked s t e l lawful.shape is) (owned _ l (Some t) is.event refl is.lock refl (λ o some. cc))
   of_acquire l (is_busy is) = stays _ is.event refl refl (start-blocked s made t lawful is.at.call is.at.at)
 
   of_release : (l : LockId) → IsRelease s t l e → ResponsibleLaw (state_after s e)
-  of_release l (is_free is) = of_owner _ l None is.at.call is.event is.at.at refl refl is.at.lock refl (λ o some. cc)
-  of_release l (is_give is) = of_owner _ l None is.at.call is.event is.at.at refl refl is.at.lock refl (λ o some. cc)
+  of_release l (is_free is) = of_owner _ l None is.event (returns-idle s t l is.at) refl refl is.at.lock refl (λ o some. cc)
+  of_release l (is_give is) = of_owner _ l None is.event (returns-idle s t l is.at) refl refl is.at.lock refl (λ o some. cc)
 
   -- a task that is queued
   of_wait : (l : LockId) → IsWait s t l e → ResponsibleLaw (state_after s e)
@@ -176,6 +174,10 @@ module _ (s : State) (made : ℕ) (t : TaskId) (e : Event) (lawful : IsLawful s 
           kept-same s (state_after s e) (same-edges _ is.event refl refl) (keeps (no_walk (ap is_full is.at.at.phased))) lawful.responsible
       by_family (by_wait l (is_leave is)) = of_left l (leave-left s t l e is)
       by_family (by_release l is) = of_release l is
+      by_family (by_reading l is) =
+          stays e refl (reading-kind (λ kind. changes_own kind ≡ false) s t l e is (record { rin = refl; busy = refl; rout = refl; wwake = refl; unbias = refl; wtake = refl; wsleep = refl; wopen = refl }))
+          (reading-kind (λ kind. changes_owner kind ≡ false) s t l e is (record { rin = refl; busy = refl; rout = refl; wwake = refl; unbias = refl; wtake = refl; wsleep = refl; wopen = refl }))
+          (unblocked_idle (reading-was_idle s t l e is))
       by_family (by_walk route u (is_walk l key is)) = of_link route u l key is
       by_family (by_walk route u (is_walkend is)) = of_end route u is
       by_family (by_confirm l path (is_restart link is)) =

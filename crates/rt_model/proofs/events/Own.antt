@@ -39,19 +39,18 @@ pub was_held : (held : Bool) → if_not_held held ≡ None → held ≡ true
 was_held true is = refl
 was_held false is = cc
 
--- and so for a read and a write, of either kind
+-- a read and a write sleep in an ordinary state at an `rw_semaphore` alone
+pub read-holds : (P : Option Reply → Type 0) (l : LockId) (kind : Option Kind) (nested : ℕ) (held : Bool) (migration : ℕ) → P (unless_nested nested (if_held held)) → P (if_held held) → P (private_answer (calls.Read l) kind nested held migration)
+read-holds P l (Some locks.RwSem) nested held migration sleeps spins = sleeps
+read-holds P l _ nested held migration sleeps spins = spins
+
+pub write-holds : (P : Option Reply → Type 0) (l : LockId) (kind : Option Kind) (nested : ℕ) (held : Bool) (migration : ℕ) → P (unless_nested nested (if_held held)) → P (if_held held) → P (private_answer (calls.Write l) kind nested held migration)
+write-holds P l (Some locks.RwSem) nested held migration sleeps spins = sleeps
+write-holds P l _ nested held migration sleeps spins = spins
+
+-- and are of a lock that isn't held, too
 pub read_unheld : (l : LockId) (kind : Option Kind) (nested : ℕ) (held : Bool) (migration : ℕ) → private_answer (calls.Read l) kind nested held migration ≡ None → held ≡ false
-read_unheld l None nested held migration is = unheld held is
-read_unheld l (Some locks.Mutex) nested held migration is = unheld held is
-read_unheld l (Some locks.Spin) nested held migration is = unheld held is
-read_unheld l (Some locks.RwLock) nested held migration is = unheld held is
-read_unheld l (Some locks.RwSem) nested held migration is = not_held nested held is
-read_unheld l (Some locks.Local) nested held migration is = unheld held is
+read_unheld l kind nested held migration = read-holds (λ (own : Option Reply). own ≡ None → held ≡ false) l kind nested held migration (not_held nested held) (unheld held)
 
 pub write_unheld : (l : LockId) (kind : Option Kind) (nested : ℕ) (held : Bool) (migration : ℕ) → private_answer (calls.Write l) kind nested held migration ≡ None → held ≡ false
-write_unheld l None nested held migration is = unheld held is
-write_unheld l (Some locks.Mutex) nested held migration is = unheld held is
-write_unheld l (Some locks.Spin) nested held migration is = unheld held is
-write_unheld l (Some locks.RwLock) nested held migration is = unheld held is
-write_unheld l (Some locks.RwSem) nested held migration is = not_held nested held is
-write_unheld l (Some locks.Local) nested held migration is = unheld held is
+write_unheld l kind nested held migration = write-holds (λ (own : Option Reply). own ≡ None → held ≡ false) l kind nested held migration (not_held nested held) (unheld held)

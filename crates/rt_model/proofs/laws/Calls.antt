@@ -19,14 +19,15 @@ use Rattle.rt_model.specs.declared.phase.Phase.{Phase}
 use Rattle.rt_model.specs.declared.phase.Phase.TheVariants as phases
 use Rattle.rt_model.specs.declared.phase.Route.{Route}
 use Rattle.rt_model.specs.declared.phase.Route.TheVariants.{Short}
-use Rattle.rt_model.specs.Parts.{ThreadPart, call_of, hold_of}
+use Rattle.rt_model.specs.Parts.{ThreadPart, call_of, hold_of, kind_of}
 use Rattle.rt_model.specs.State.{State, shared, start, fresh_thread, kinds_in, owner_part, thread_part}
 use Rattle.rt_model.specs.Choice.{called_lock}
-use Rattle.rt_model.specs.steps.Thread.{answered_with}
+use Rattle.rt_model.specs.steps.Thread.{got_answer, released_answer, answered_with}
 use Rattle.rt_model.specs.steps.Chain.{answer_of_walk}
 use Rattle.rt_model.specs.laws.Keys.{StandsAt}
 use Rattle.rt_model.specs.Effect.{around}
 use Rattle.rt_model.specs.events.Acquire.{busy_event}
+use Rattle.rt_model.specs.events.Readers.{unbias_event, wtake_event}
 use Rattle.rt_model.specs.events.Own.{unless_nested, if_held, if_not_held, spinning_holds, own_event}
 use Rattle.rt_model.specs.Rules.{touched}
 use Rattle.rt_model.specs.StateAfter.{effect_in, shared_after, state_after}
@@ -34,21 +35,23 @@ use Rattle.rt_model.specs.Run.{after, IsRun, is_at_end, is_done, is_stuck, ended
 use Rattle.rt_model.specs.Stage.{IsToCome}
 use Rattle.rt_model.specs.laws.Lawful.{IsLawful}
 use Rattle.rt_model.specs.laws.Shape.{IsOf}
-use Rattle.rt_model.specs.laws.Calls.{can_have_waiting, can_have_signalled, can_have_nested, can_have_trying, can_have_releasing, can_have_waking, can_have, called_task, called_number, NamesFor, IsOfCall, IsOfWalk, is_of_walk, then_make, makes_first, Make, events_of, answered_after, CallsLaw}
+use Rattle.rt_model.specs.laws.Calls.{can_have_waiting, can_have_waking, can_have, called_task, called_number, NamesFor, IsOfCall, IsOfWalk, is_of_walk, then_make, makes_first, Make, events_of, answered_after, CallsLaw}
 use Rattle.rt_model.proofs.Lists.{All-default, read-map}
 use Rattle.rt_model.proofs.Numbers.{same_task}
-use Rattle.rt_model.proofs.Calling.{IsIn, WaitsFor, waits-holds, waits-called, Asks, tries-holds, Returns, releases-holds}
+use Rattle.rt_model.proofs.Calling.{IsIn, WaitsFor, waits-holds, waits-called, Asks, tries-holds, ReturnsBy, from_hold, from_inside, Returns, releases-holds, ends-holds, writes-holds}
 use Rattle.rt_model.proofs.Leaves.{IsLeft, by_leave, by_cycle, left-is, leave-left, cycle-left}
-use Rattle.rt_model.proofs.NextEvents.{IsNext, by_own, by_acquire, by_wait, by_release, by_walk, by_confirm, by_wakeup, by_setprio}
+use Rattle.rt_model.proofs.NextEvents.{IsNext, by_own, by_acquire, by_wait, by_release, by_reading, by_walk, by_confirm, by_wakeup, by_setprio}
 use Rattle.rt_model.proofs.ToCome.{to_come-holds, answered-holds}
-use Rattle.rt_model.proofs.events.Own.{IsOwn}
-use Rattle.rt_model.proofs.events.Acquire.{IsBusy, is_fast, is_mark, is_take, is_busy, IsAcquireOf, IsAcquiring, fast-acquiring, take-acquiring}
+use Rattle.rt_model.proofs.events.Own.{IsOwn, read-holds, write-holds}
+use Rattle.rt_model.proofs.events.Acquire.{IsBusy, is_fast, is_mark, is_take, is_busy, asking, IsAcquireOf, IsAcquiring, fast-acquiring, take-acquiring, acquiring-holds}
 use Rattle.rt_model.proofs.events.Wait.{is_wait, is_again, is_leave}
 use Rattle.rt_model.proofs.events.Release.{is_free, is_give}
+use Rattle.rt_model.proofs.events.Readers.{IsMade, IsReading, is_read, is_tryread, is_let_in, is_shut, is_tryshut, is_out, is_wwake, is_unbias, is_in, is_sleep, is_given_up, is_in_late, is_sleep_again, is_opened, is_downgraded}
 use Rattle.rt_model.proofs.events.Wakeups.{is_state, is_sched, is_wake, is_signal}
 use Rattle.rt_model.proofs.events.Walk.{WalksIn, by_full, by_short, is_walk, is_walkend, is_restart, is_cycle}
 use Rattle.rt_model.proofs.PartsAfter.{thread-own, thread-other, thread-phase}
 use Rattle.rt_model.proofs.Prefixes.{run-next, run-lawful, next-there, next-task, IsOf-along}
+use Rattle.rt_model.proofs.Reading.{reading-kind}
 use Rattle.rt_model.proofs.Starts.{IsOf-start}
 use Rattle.rt_model.proofs.Waiters.{blocking, walk-phase}
 use Rattle.rt_model.proofs.laws.Holders.{other_kind}
@@ -82,10 +85,30 @@ notowner-holds P false answer is holds = let same : replies.NotOwner ≡ answer 
 written : (cpu : Cpu) (call : Call) (e x : Event) → e ≡ x → can_have call x.kind x.reply ≡ true → NamesFor x.kind cpu call x → IsOfCall cpu call e
 written cpu call e x is can names = subst (IsOfCall cpu call) (sym is) (record { can = can; names = names })
 
+-- one of two tests passes
+in_front : (a b : Bool) → a ≡ true → (a || b) ≡ true
+in_front true b is = refl
+in_front false b is = cc
+
+behind : (a b : Bool) → b ≡ true → (a || b) ≡ true
+behind true b is = refl
+behind false b is = is
+
 -- one that waits can have what each that waits can
 can-waiting : (call : Call) (l : LockId) (kind : EventKind) (reply : Option Reply) → WaitsFor call l → can_have_waiting kind reply ≡ true → can_have call kind reply ≡ true
 can-waiting call l kind reply waits_for can =
-    waits-holds (λ c. can_have c kind reply ≡ true) call l waits_for (ap (λ (b : Bool). b || can_have_nested kind reply) can) (ap (λ (b : Bool). b || can_have_nested kind reply || can_have_signalled kind reply) can) can
+    waits-holds (λ c. can_have c kind reply ≡ true) call l waits_for (in_front _ _ (behind _ _ can)) (in_front _ _ (in_front _ _ (behind _ _ can))) (behind _ _ can)
+    (in_front _ _ (in_front _ _ (behind _ _ can))) (in_front _ _ (in_front _ _ (in_front _ _ (behind _ _ can))))
+
+-- a call on a lock names no task and no number
+lock-named : (cpu : Cpu) (call : Call) (l : LockId) → called_lock cpu call ≡ Some l → (None ≡ called_task call) × (0 ≡ called_number call)
+lock-named cpu (calls.State state) l is = cc
+lock-named cpu calls.Schedule l is = cc
+lock-named cpu (calls.Wake u) l is = cc
+lock-named cpu (calls.Signal u) l is = cc
+lock-named cpu (calls.SetPrio u prio) l is = cc
+lock-named cpu (calls.Move to) l is = cc
+lock-named cpu _ l is = (refl, refl)
 
 -- ---- answers
 
@@ -108,12 +131,25 @@ own-of : (s : State) (t : TaskId) (call : Call) (answer : Reply) (e : Event) →
 own-of s t (calls.Lock l) answer e is = own-named s t (calls.Lock l) answer e is.event refl refl (own-sleeps s t (calls.Lock l) l answer is.why refl refl)
 own-of s t (calls.LockInt l) answer e is = own-named s t (calls.LockInt l) answer e is.event refl refl (own-sleeps s t (calls.LockInt l) l answer is.why refl refl)
 own-of s t (calls.Spin l) answer e is = own-named s t (calls.Spin l) answer e is.event refl refl (deadlock-holds (λ a. can_have (calls.Spin l) kinds.Own (Some a) ≡ true) _ answer is.why refl)
+own-of s t (calls.Read l) answer e is =
+    own-named s t (calls.Read l) answer e is.event refl refl
+    (read-holds (λ (own : Option Reply). own ≡ Some answer → can_have (calls.Read l) kinds.Own (Some answer) ≡ true) l (Some (kind_of (thread_part s t) l)) _ _ _
+    (λ why. own-sleeps s t (calls.Read l) l answer why refl refl) (λ why. deadlock-holds (λ a. can_have (calls.Read l) kinds.Own (Some a) ≡ true) _ answer why refl) is.why)
+own-of s t (calls.Write l) answer e is =
+    own-named s t (calls.Write l) answer e is.event refl refl
+    (write-holds (λ (own : Option Reply). own ≡ Some answer → can_have (calls.Write l) kinds.Own (Some answer) ≡ true) l (Some (kind_of (thread_part s t) l)) _ _ _
+    (λ why. own-sleeps s t (calls.Write l) l answer why refl refl) (λ why. deadlock-holds (λ a. can_have (calls.Write l) kinds.Own (Some a) ≡ true) _ answer why refl) is.why)
 own-of s t (calls.Unlock l) answer e is = own-named s t (calls.Unlock l) answer e is.event refl refl (notowner-holds (λ a. can_have (calls.Unlock l) kinds.Own (Some a) ≡ true) _ answer is.why refl)
 own-of s t (calls.Unspin l) answer e is = own-named s t (calls.Unspin l) answer e is.event refl refl (notowner-holds (λ a. can_have (calls.Unspin l) kinds.Own (Some a) ≡ true) _ answer is.why refl)
+own-of s t (calls.Unread l) answer e is = own-named s t (calls.Unread l) answer e is.event refl refl (notowner-holds (λ a. can_have (calls.Unread l) kinds.Own (Some a) ≡ true) _ answer is.why refl)
+own-of s t (calls.Unwrite l) answer e is = own-named s t (calls.Unwrite l) answer e is.event refl refl (notowner-holds (λ a. can_have (calls.Unwrite l) kinds.Own (Some a) ≡ true) _ answer is.why refl)
+own-of s t (calls.Downgrade l) answer e is = own-named s t (calls.Downgrade l) answer e is.event refl refl (notowner-holds (λ a. can_have (calls.Downgrade l) kinds.Own (Some a) ≡ true) _ answer is.why refl)
 own-of s t calls.Schedule answer e is =
     own-named s t calls.Schedule answer e is.event refl refl (nested-holds (λ a. can_have calls.Schedule kinds.Own (Some a) ≡ true) (nested s t) None answer is.why refl (λ why. cc))
 own-of s t (calls.TryLock l) answer e is = let why = is.why in cc
 own-of s t (calls.TrySpin l) answer e is = let why = is.why in cc
+own-of s t (calls.TryRead l) answer e is = let why = is.why in cc
+own-of s t (calls.TryWrite l) answer e is = let why = is.why in cc
 own-of s t (calls.State state) answer e is = let why = is.why in cc
 own-of s t (calls.Wake u) answer e is = let why = is.why in cc
 own-of s t (calls.Signal u) answer e is = let why = is.why in cc
@@ -141,38 +177,76 @@ waking-can false = refl
 in_call : (s : State) (t : TaskId) (phase : Phase) (call : Call) (e x : Event) → IsIn s t phase call → e ≡ x → can_have call x.kind x.reply ≡ true → NamesFor x.kind (thread_part s t).cpu call x → IsAtCall s t e
 in_call s t phase call e x at is can names = record { call = call; at = at.calling; of = written (thread_part s t).cpu call e x is can names }
 
--- and in one of a call that waits
-asks_call : (s : State) (t : TaskId) (phase : Phase) (l : LockId) (e x : Event) → Asks s t phase l → e ≡ x → can_have_waiting x.kind x.reply ≡ true
-    → NamesFor x.kind (thread_part s t).cpu (calls.Lock l) x → NamesFor x.kind (thread_part s t).cpu (calls.LockInt l) x → NamesFor x.kind (thread_part s t).cpu (calls.Spin l) x → IsAtCall s t e
-asks_call s t phase l e x asks is can lock lockint spin =
-    in_call s t phase asks.call e x asks.at is (can-waiting asks.call l x.kind x.reply asks.waits_for can) (waits-holds (λ c. NamesFor x.kind (thread_part s t).cpu c x) asks.call l asks.waits_for lock lockint spin)
+-- and of one on a lock
+lock_call : (s : State) (t : TaskId) (l : LockId) (call : Call) (e x : Event) → call_of (thread_part s t) ≡ Some call → called_lock (thread_part s t).cpu call ≡ Some l → e ≡ x → can_have call x.kind x.reply ≡ true
+    → (Some l ≡ called_lock (thread_part s t).cpu call → None ≡ called_task call → 0 ≡ called_number call → NamesFor x.kind (thread_part s t).cpu call x) → IsAtCall s t e
+lock_call s t l call e x calling about is can names =
+    let cpu = (thread_part s t).cpu in
+    let none = lock-named cpu call l about in
+    record { call = call; at = calling; of = written cpu call e x is can (names (sym about) none.0 none.1) }
+
+-- of one that waits
+asks_call : (s : State) (t : TaskId) (phase : Phase) (l : LockId) (e x : Event) (asks : Asks s t phase l) → e ≡ x → can_have_waiting x.kind x.reply ≡ true
+    → (Some l ≡ called_lock (thread_part s t).cpu asks.call → None ≡ called_task asks.call → 0 ≡ called_number asks.call → NamesFor x.kind (thread_part s t).cpu asks.call x) → IsAtCall s t e
+asks_call s t phase l e x asks is can names =
+    lock_call s t l asks.call e x asks.at.calling (waits-called (thread_part s t).cpu asks.call l asks.waits_for) is (can-waiting asks.call l x.kind x.reply asks.waits_for can) names
+
+-- of one whose answer the call tells
+told_call : (s : State) (t : TaskId) (l : LockId) (call : Call) (answer : Option Call → Option Reply) (e x : Event) → call_of (thread_part s t) ≡ Some call → called_lock (thread_part s t).cpu call ≡ Some l → e ≡ x
+    → x.reply ≡ answer (call_of (thread_part s t)) → can_have call x.kind (answer (Some call)) ≡ true
+    → (Some l ≡ called_lock (thread_part s t).cpu call → None ≡ called_task call → 0 ≡ called_number call → NamesFor x.kind (thread_part s t).cpu call x) → IsAtCall s t e
+told_call s t l call answer e x calling about is reply can names =
+    lock_call s t l call e x calling about is (subst (λ (r : Option Reply). can_have call x.kind r ≡ true) (sym (reply ∙ ap answer calling)) can) names
 
 -- of a task that gets the lock
-got_call : (s : State) (t : TaskId) (l : LockId) (e x : Event) → IsAcquiring s t l → e ≡ x
-    → ((call : Call) → can_have call x.kind x.reply ≡ true → called_lock (thread_part s t).cpu call ≡ Some l → called_task call ≡ None → called_number call ≡ 0 → IsOfCall (thread_part s t).cpu call x)
-    → can_have_waiting x.kind x.reply ≡ true → can_have_trying x.kind x.reply ≡ true → IsAtCall s t e
-got_call s t l e x at is names waiting trying = record { call = at.call; at = at.calling; of = subst (IsOfCall (thread_part s t).cpu at.call) (sym is) (by_call at.acquires) }
-  where
-    by_call : IsAcquireOf l at.call → IsOfCall (thread_part s t).cpu at.call x
-    by_call (inl waits_for) =
-        names at.call (can-waiting at.call l x.kind x.reply waits_for waiting) (waits-called (thread_part s t).cpu at.call l waits_for)
-        (waits-holds (λ c. called_task c ≡ None) at.call l waits_for refl refl refl) (waits-holds (λ c. called_number c ≡ 0) at.call l waits_for refl refl refl)
-    by_call (inr tries) =
-        names at.call (tries-holds (λ c. can_have c x.kind x.reply ≡ true) at.call l tries trying trying) (tries-holds (λ c. called_lock (thread_part s t).cpu c ≡ Some l) at.call l tries refl refl)
-        (tries-holds (λ c. called_task c ≡ None) at.call l tries refl refl) (tries-holds (λ c. called_number c ≡ 0) at.call l tries refl refl)
+acquiring-called : (cpu : Cpu) (call : Call) (l : LockId) → IsAcquireOf l call → called_lock cpu call ≡ Some l
+acquiring-called cpu call l is = acquiring-holds (λ c. called_lock cpu c ≡ Some l) call l is refl refl refl refl refl refl refl refl
 
 -- of one that tries, and may not have it
 busy_call : (s : State) (t : TaskId) (l : LockId) (e : Event) → IsBusy s t l e → IsAtCall s t e
 busy_call s t l e is =
-    in_call s t phases.Start is.at.call e _ is.at.at is.event (tries-holds (λ c. can_have c kinds.Busy (Some replies.Busy) ≡ true) is.at.call l is.at.tries_for refl refl)
-    (tries-holds (λ c. NamesFor kinds.Busy (thread_part s t).cpu c (busy_event t l (owner_part s l))) is.at.call l is.at.tries_for (refl, refl, refl) (refl, refl, refl))
+    in_call s t phases.Start is.at.call e _ is.at.at is.event (tries-holds (λ c. can_have c kinds.Busy (Some replies.Busy) ≡ true) is.at.call l is.at.tries_for refl refl refl)
+    (tries-holds (λ c. NamesFor kinds.Busy (thread_part s t).cpu c (busy_event t l (owner_part s l))) is.at.call l is.at.tries_for (refl, refl, refl) (refl, refl, refl) (refl, refl, refl))
 
 -- of one that releases it
-done_call : (s : State) (t : TaskId) (l : LockId) (e x : Event) → Returns s t l → e ≡ x → can_have_releasing x.kind x.reply ≡ true
-    → NamesFor x.kind (thread_part s t).cpu (calls.Unlock l) x → NamesFor x.kind (thread_part s t).cpu (calls.Unspin l) x → IsAtCall s t e
-done_call s t l e x at is can unlock unspin =
-    in_call s t phases.Start at.call e x at.at is (releases-holds (λ c. can_have c x.kind x.reply ≡ true) at.call l at.releases can can)
-    (releases-holds (λ c. NamesFor x.kind (thread_part s t).cpu c x) at.call l at.releases unlock unspin)
+returning-holds : (P : Call → Type 0) (s : State) (t : TaskId) (l : LockId) (is : Returns s t l) → P (calls.Unlock l) → P (calls.Unspin l) → P (calls.Read l) → P (calls.TryWrite l) → P (calls.Unwrite l) → P (calls.Downgrade l) → P is.call
+returning-holds P s t l is unlock unspin read trywrite unwrite downgrade = by_how is.by
+  where
+    by_how : ReturnsBy s t l is.call → P is.call
+    by_how (from_hold releases at held) = releases-holds P is.call l releases unlock unspin
+    by_how (from_inside ends at) = ends-holds P is.call l ends read trywrite unwrite downgrade
+
+returning-called : (cpu : Cpu) (s : State) (t : TaskId) (l : LockId) (is : Returns s t l) → called_lock cpu is.call ≡ Some l
+returning-called cpu s t l is = returning-holds (λ c. called_lock cpu c ≡ Some l) s t l is refl refl refl refl refl refl
+
+-- of one that reads or writes
+made_call : (s : State) (t : TaskId) (l : LockId) (phase : Phase) (call : Call) (x e : Event) → IsMade s t l phase call x e → can_have call x.kind x.reply ≡ true → NamesFor x.kind (thread_part s t).cpu call x → IsAtCall s t e
+made_call s t l phase call x e is can names = in_call s t phase call e x is.at is.event can names
+
+out-can : (l : LockId) (wakes : Bool) → can_have (calls.Unread l) kinds.ROut (cond wakes None (Some replies.Done)) ≡ true
+out-can l true = refl
+out-can l false = refl
+
+reading_call : (s : State) (t : TaskId) (l : LockId) (e : Event) → IsReading s t l e → IsAtCall s t e
+reading_call s t l e (is_read is unheld can) = made_call s t l _ _ _ e is refl (refl, refl, refl)
+reading_call s t l e (is_tryread is set) = made_call s t l _ _ _ e is refl (refl, refl, refl)
+reading_call s t l e (is_let_in is) = made_call s t l _ _ _ e is refl (refl, refl, refl)
+reading_call s t l e (is_shut is unheld cannot) = made_call s t l _ _ _ e is refl (refl, refl, refl)
+reading_call s t l e (is_tryshut is off) = made_call s t l _ _ _ e is refl (refl, refl, refl)
+reading_call s t l e (is_out is held) = made_call s t l _ _ _ e is (out-can l _) (refl, refl, refl)
+reading_call s t l e (is_wwake is) = made_call s t l _ _ _ e is refl (refl, refl, refl)
+reading_call s t l e (is_unbias call writes is) =
+    made_call s t l _ call _ e is (writes-holds (λ c. can_have c kinds.Unbias None ≡ true) call l writes refl refl)
+    (writes-holds (λ c. NamesFor kinds.Unbias (thread_part s t).cpu c (unbias_event t l)) call l writes (refl, refl, refl) (refl, refl, refl))
+reading_call s t l e (is_in call writes is can) =
+    made_call s t l _ call _ e is (writes-holds (λ c. can_have c kinds.WTake (Some replies.Got) ≡ true) call l writes refl refl)
+    (writes-holds (λ c. NamesFor kinds.WTake (thread_part s t).cpu c (wtake_event t l None)) call l writes (refl, refl, refl) (refl, refl, refl))
+reading_call s t l e (is_sleep is cannot) = made_call s t l _ _ _ e is refl (refl, refl, refl)
+reading_call s t l e (is_given_up is cannot) = made_call s t l _ _ _ e is refl (refl, refl, refl)
+reading_call s t l e (is_in_late is runs can) = made_call s t l _ _ _ e is refl (refl, refl, refl)
+reading_call s t l e (is_sleep_again is runs cannot) = made_call s t l _ _ _ e is refl (refl, refl, refl)
+reading_call s t l e (is_opened is held) = made_call s t l _ _ _ e is refl (refl, refl, refl)
+reading_call s t l e (is_downgraded is held) = made_call s t l _ _ _ e is refl (refl, refl, refl)
 
 -- of a walk, which has an answer where a short one ends
 walk_call : (s : State) (t : TaskId) (route : Route) (u : TaskId) (next : Option Phase) (e x : Event) → WalksIn s t route u → e ≡ x → x.reply ≡ answer_of_walk route next
@@ -180,7 +254,7 @@ walk_call : (s : State) (t : TaskId) (route : Route) (u : TaskId) (next : Option
     → can_have_waiting x.kind None ≡ true → ((call : Call) (answer : Reply) → IsToCome call answer → can_have call x.kind (answer_of_walk (Short answer) next) ≡ true) → IsAtCall s t e
 walk_call s t route u next e x (by_full path l same asks) is reply names waits short =
     let none : x.reply ≡ None = reply ∙ ap (λ (r : Route). answer_of_walk r next) same in
-    asks_call s t _ l e x asks is (ap (can_have_waiting x.kind) none ∙ waits) (names (calls.Lock l)) (names (calls.LockInt l)) (names (calls.Spin l))
+    asks_call s t _ l e x asks is (ap (can_have_waiting x.kind) none ∙ waits) (λ lock task number. names asks.call)
 walk_call s t route u next e x (by_short call answer same at to_come) is reply names waits short =
     let ends : x.reply ≡ answer_of_walk (Short answer) next = reply ∙ ap (λ (r : Route). answer_of_walk r next) same in
     in_call s t _ call e x at is (ap (can_have call x.kind) ends ∙ short call answer to_come) (names call)
@@ -191,24 +265,33 @@ left_call s t l e (by_leave is) =
     in_call s t phases.Wait (calls.LockInt l) e _ is.at is.event (answered-holds (λ reply. can_have (calls.LockInt l) kinds.Leave reply ≡ true) replies.Interrupted _ refl refl) (refl, refl, refl)
 left_call s t l e (by_cycle path o m rest is round owned) =
     asks_call s t (phases.Confirm path) l e _ is.at (left-is s t l e (by_cycle path o m rest is round owned)) (answered-holds (λ reply. can_have_waiting kinds.Cycle reply ≡ true) replies.Deadlock _ refl refl)
-    (refl, refl, refl) (refl, refl, refl) (refl, refl, refl)
+    (λ lock task number. (lock, task, number))
 
 its_call : (s : State) (made : ℕ) (t : TaskId) (e : Event) → IsLawful s made → IsNext s t e → IsAtCall s t e
 its_call s made t e lawful (by_own call answer is) = record { call = call; at = is.at.calling; of = own-of s t call answer e is }
 its_call s made t e lawful (by_acquire l (is_fast is)) =
-    got_call s t l e _ (fast-acquiring s t l is.how) is.event (λ call can lock task number. record { can = can; names = (sym lock, sym task, sym number) }) refl refl
+    let at = fast-acquiring s t l is.how in
+    told_call s t l at.call got_answer e _ at.calling (acquiring-called (thread_part s t).cpu at.call l at.acquires) is.event refl
+    (acquiring-holds (λ c. can_have c kinds.Fast (got_answer (Some c)) ≡ true) at.call l at.acquires refl refl refl refl refl refl refl refl) (λ lock task number. (lock, task, number))
 its_call s made t e lawful (by_acquire l (is_take is)) =
-    got_call s t l e _ (take-acquiring s t l is.how) is.event (λ call can lock task number. record { can = can; names = (sym lock, sym task, sym number) }) refl refl
-its_call s made t e lawful (by_acquire l (is_mark is)) = asks_call s t _ l e _ is.at is.event refl (refl, refl, refl) (refl, refl, refl) (refl, refl, refl)
+    let at = take-acquiring s t l is.how in
+    told_call s t l at.call got_answer e _ at.calling (acquiring-called (thread_part s t).cpu at.call l at.acquires) is.event refl
+    (acquiring-holds (λ c. can_have c kinds.Take (got_answer (Some c)) ≡ true) at.call l at.acquires refl refl refl refl refl refl refl refl) (λ lock task number. (lock, task, number))
+its_call s made t e lawful (by_acquire l (is_mark is)) = asks_call s t _ l e _ (asking s t l is.how).1 is.event refl (λ lock task number. (lock, task, number))
 its_call s made t e lawful (by_acquire l (is_busy is)) = busy_call s t l e is
-its_call s made t e lawful (by_wait l (is_wait is)) = asks_call s t _ l e _ is.at is.event refl (refl, refl, refl) (refl, refl, refl) (refl, refl, refl)
-its_call s made t e lawful (by_wait l (is_again is)) = asks_call s t _ l e _ is.at is.event refl (refl, refl, refl) (refl, refl, refl) (refl, refl, refl)
+its_call s made t e lawful (by_wait l (is_wait is)) = asks_call s t _ l e _ is.at is.event refl (λ lock task number. (lock, task, number))
+its_call s made t e lawful (by_wait l (is_again is)) = asks_call s t _ l e _ is.at is.event refl (λ lock task number. (lock, task, number))
 its_call s made t e lawful (by_wait l (is_leave is)) = left_call s t l e (leave-left s t l e is)
-its_call s made t e lawful (by_release l (is_free is)) = done_call s t l e _ is.at is.event refl (refl, refl, refl) (refl, refl, refl)
-its_call s made t e lawful (by_release l (is_give is)) = done_call s t l e _ is.at is.event refl (refl, refl, refl) (refl, refl, refl)
+its_call s made t e lawful (by_release l (is_free is)) =
+    told_call s t l is.at.call (λ (c : Option Call). Some (released_answer c)) e _ is.at.calling (returning-called (thread_part s t).cpu s t l is.at) is.event refl
+    (returning-holds (λ c. can_have c kinds.Free (Some (released_answer (Some c))) ≡ true) s t l is.at refl refl refl refl refl refl) (λ lock task number. (lock, task, number))
+its_call s made t e lawful (by_release l (is_give is)) =
+    told_call s t l is.at.call (λ (c : Option Call). Some (released_answer c)) e _ is.at.calling (returning-called (thread_part s t).cpu s t l is.at) is.event refl
+    (returning-holds (λ c. can_have c kinds.Give (Some (released_answer (Some c))) ≡ true) s t l is.at refl refl refl refl refl refl) (λ lock task number. (lock, task, number))
+its_call s made t e lawful (by_reading l is) = reading_call s t l e is
 its_call s made t e lawful (by_walk route u (is_walk l key is)) = walk_call s t route u _ e _ is.how is.event refl (λ call. (refl, refl, refl)) refl (walk-can _)
 its_call s made t e lawful (by_walk route u (is_walkend is)) = walk_call s t route u None e _ is.how is.event refl (λ call. (refl, refl, refl)) refl walkend-can
-its_call s made t e lawful (by_confirm l path (is_restart link is)) = asks_call s t _ l e _ is.at is.event refl (refl, refl, refl) (refl, refl, refl) (refl, refl, refl)
+its_call s made t e lawful (by_confirm l path (is_restart link is)) = asks_call s t _ l e _ is.at is.event refl (λ lock task number. (refl, refl, refl))
 its_call s made t e lawful (by_confirm l path (is_cycle is)) = left_call s t l e (cycle-left s made t l path e lawful is)
 its_call s made t e lawful (by_wakeup (is_state state is)) = in_call s t _ _ e _ is.at is.event refl (refl, refl, refl)
 its_call s made t e lawful (by_wakeup (is_sched is)) = in_call s t _ _ e _ is.at is.event refl (refl, refl, refl)
@@ -246,6 +329,9 @@ of-walk s e (by_wait l (is_again is)) walks = absurd (other_kind is_of_walk e _ 
 of-walk s e (by_wait l (is_leave is)) walks = absurd (other_kind is_of_walk e _ is.event refl walks)
 of-walk s e (by_release l (is_free is)) walks = absurd (other_kind is_of_walk e _ is.event refl walks)
 of-walk s e (by_release l (is_give is)) walks = absurd (other_kind is_of_walk e _ is.event refl walks)
+of-walk s e (by_reading l is) walks =
+    let never : is_of_walk e.kind ≡ false = reading-kind (λ kind. is_of_walk kind ≡ false) s e.task l e is (record { rin = refl; busy = refl; rout = refl; wwake = refl; unbias = refl; wtake = refl; wsleep = refl; wopen = refl }) in
+    absurd cc
 of-walk s e (by_confirm l path (is_restart link is)) walks = absurd (other_kind is_of_walk e _ is.event refl walks)
 of-walk s e (by_confirm l path (is_cycle is)) walks = absurd (other_kind is_of_walk e _ is.event refl walks)
 of-walk s e (by_wakeup (is_state state is)) walks = absurd (other_kind is_of_walk e _ is.event refl walks)

@@ -19,17 +19,18 @@ use Rattle.rt_model.specs.declared.phase.Phase.TheVariants as phases
 use Rattle.rt_model.specs.declared.phase.Route.{Route}
 use Rattle.rt_model.specs.declared.phase.Route.TheVariants.{Full, Short}
 use Rattle.rt_model.specs.declared.row.Row.{Row}
-use Rattle.rt_model.specs.Parts.{TaskPart, ThreadPart, hold_of}
+use Rattle.rt_model.specs.Parts.{TaskPart, ThreadPart, call_of, hold_of, kind_of}
 use Rattle.rt_model.specs.Rows.{row_of}
-use Rattle.rt_model.specs.State.{State, shared, lock_at, task_at, owner_part, task_part, thread_part}
+use Rattle.rt_model.specs.State.{State, shared, lock_at, task_at, owner_part, reader_part, task_part, thread_part}
 use Rattle.rt_model.specs.steps.Chain.{followed, goes_on, phase_of_walk, answer_of_walk}
 use Rattle.rt_model.specs.Path.{first_lock, first_owner}
 use Rattle.rt_model.specs.events.Own.{unless_nested, if_held, if_not_held}
 use Rattle.rt_model.specs.events.Wait.{phase_after_wait, leave_event}
 use Rattle.rt_model.specs.events.Walk.{walk_event, cycle_event, phase_after_link, phase_after_end}
 use Rattle.rt_model.specs.events.Wakeups.{setprio_event}
+use Rattle.rt_model.specs.steps.Readers.{without_reader, wakes_writer}
 use Rattle.rt_model.specs.steps.Task.{sleeps, is_interruptible, wake_answer, signal_answer}
-use Rattle.rt_model.specs.steps.Thread.{answered_with}
+use Rattle.rt_model.specs.steps.Thread.{phase_after_got, got_answer, released_answer, answered_with}
 use Rattle.rt_model.specs.Effect.{Around, around}
 use Rattle.rt_model.specs.Rules.{touched}
 use Rattle.rt_model.specs.StateAfter.{effect_in, shared_after, state_after}
@@ -42,12 +43,14 @@ use Rattle.rt_model.proofs.Numbers.{other_number, at_each_task}
 use Rattle.rt_model.proofs.Leaves.{IsLeft, leave-left, cycle-left, left-locks, left-own_blocked}
 use Rattle.rt_model.proofs.Queues.{row_of-without_other}
 use Rattle.rt_model.proofs.Routes.{full-holds, short-holds}
-use Rattle.rt_model.proofs.NextEvents.{IsNext, by_own, by_acquire, by_wait, by_release, by_walk, by_confirm, by_wakeup, by_setprio}
+use Rattle.rt_model.proofs.NextEvents.{IsNext, by_own, by_acquire, by_wait, by_release, by_reading, by_walk, by_confirm, by_wakeup, by_setprio}
 use Rattle.rt_model.proofs.Lawful.{IsLawful-next}
 use Rattle.rt_model.proofs.PartsAfter.{thread-own, thread-other}
+use Rattle.rt_model.proofs.Reading.{is_idle, reading-threads, reading-was_idle}
 use Rattle.rt_model.proofs.Waiters.{walk-phase}
-use Rattle.rt_model.proofs.events.Own.{IsOwn}
-use Rattle.rt_model.proofs.events.Acquire.{is_fast, is_mark, is_take, is_busy}
+use Rattle.rt_model.proofs.events.Own.{IsOwn, read-holds, write-holds}
+use Rattle.rt_model.proofs.events.Acquire.{is_fast, is_mark, is_take, is_busy, IsAcquiring, fast-acquiring, take-acquiring, acquiring-holds}
+use Rattle.rt_model.proofs.events.Readers.{reading-holds}
 use Rattle.rt_model.proofs.events.Wait.{is_wait, is_again, is_leave, IsLeave}
 use Rattle.rt_model.proofs.events.Release.{is_free, is_give}
 use Rattle.rt_model.proofs.events.Walk.{WalksIn, by_full, by_short, is_walk, is_walkend, is_restart, is_cycle, IsWalk, IsCycleEvent}
@@ -200,11 +203,24 @@ module _ (s : State) (t : TaskId) (e : Event) (answer : Reply) (u : TaskId) (of 
           let one = short-answer t before answer (owner_part s l).owner owner u (onward (Short before) same) in
           went_on cursor (at.phased ∙ (ap (phases.Walk cursor) same ∙ ap (λ (b : Reply). phases.Walk cursor (Short b)) one)) both.none
 
+  -- one that gets a lock, which either answers, or is the way of a reader or a writer
+  got : (l : LockId) (x : Event) → e ≡ x → x.task ≡ t → IsAcquiring s t l → x.reply ≡ got_answer (call_of (thread_part s t))
+      → (thread_left s x).phase ≡ phase_after_got (call_of (thread_part s t)) (thread_part s t).phase → Comes s t e answer
+  got l x is its at reply left =
+      let both = walked s t e x u (Short answer) is its lt walks in
+      absurd (acquiring-holds (λ c. got_answer (Some c) ≡ None → phase_after_got (Some c) (thread_part s t).phase ≡ phases.Walk u (Short answer) → ⊥) at.call l at.acquires
+      (λ none. cc) (λ none. cc) (λ none. cc) (λ none. cc) (λ none. cc) (λ none phase. cc) (λ none phase. cc) (λ none phase. cc)
+      (ap got_answer (sym at.calling) ∙ (sym reply ∙ both.reply)) (ap (λ (c : Option Call). phase_after_got c (thread_part s t).phase) (sym at.calling) ∙ (sym left ∙ both.left)))
+
+  -- one that leaves its task idle
+  idle : is_idle (thread_part (state_after s e) t).phase ≡ true → Comes s t e answer
+  idle is = let never : is_idle (phases.Walk u (Short answer)) ≡ true = ap is_idle (sym walks) ∙ is in absurd cc
+
   pub comes : IsNext s t e → Comes s t e answer
   comes (by_own call a is) = answered _ is.event refl (λ n. cc)
-  comes (by_acquire l (is_fast is)) = answered _ is.event refl (λ n. cc)
+  comes (by_acquire l (is_fast is)) = got l _ is.event refl (fast-acquiring s t l is.how) refl refl
   comes (by_acquire l (is_mark is)) = no_walk _ is.event refl (λ w. cc)
-  comes (by_acquire l (is_take is)) = answered _ is.event refl (λ n. cc)
+  comes (by_acquire l (is_take is)) = got l _ is.event refl (take-acquiring s t l is.how) refl refl
   comes (by_acquire l (is_busy is)) = answered _ is.event refl (λ n. cc)
   comes (by_wait l (is_wait is)) = no_walk _ is.event refl (wait-never t (Some l) _ _ u answer)
   comes (by_wait l (is_again is)) = no_walk _ is.event refl (λ w. let at = is.at.at.phased in cc)
@@ -214,6 +230,7 @@ module _ (s : State) (t : TaskId) (e : Event) (answer : Reply) (u : TaskId) (of 
       begun (ended_leave l (sym both.0) is) both.1
   comes (by_release l (is_free is)) = answered _ is.event refl (λ n. cc)
   comes (by_release l (is_give is)) = answered _ is.event refl (λ n. cc)
+  comes (by_reading l is) = idle (reading-threads s t l e is (λ v thread. is_idle thread.phase ≡ true) t (λ thread still. still) (reading-was_idle s t l e is))
   comes (by_walk route cursor (is_walk l key is)) = linked route cursor l key is
   comes (by_walk route cursor (is_walkend is)) =
       no_walk _ is.event refl (λ w. end-never cursor u answer route (sym (ap phase_after_end (walk-phase s t route cursor is.how)) ∙ w))
@@ -250,6 +267,21 @@ of_reply (Some answer) = of_wait answer
 wake-other : (task : TaskPart) → of_wait (wake_answer task) ≡ false
 wake-other task = cond_both (sleeps task.state || sleeps task.saved) Woke Missed (λ answer. of_wait answer ≡ false) (λ its. refl) (λ its. refl)
 
+got-other : (call : Option Call) → of_reply (got_answer call) ≡ false
+got-other (Some (calls.Read l)) = refl
+got-other (Some (calls.Write l)) = refl
+got-other (Some (calls.TryWrite l)) = refl
+got-other _ = refl
+
+given-other : (call : Option Call) → of_wait (released_answer call) ≡ false
+given-other (Some (calls.Read l)) = refl
+given-other (Some (calls.TryWrite l)) = refl
+given-other _ = refl
+
+out-other : (woken : Bool) → of_reply (cond woken None (Some replies.Done)) ≡ false
+out-other true = refl
+out-other false = refl
+
 signal-other : (task : TaskPart) → of_wait (signal_answer task) ≡ false
 signal-other task = cond_both (is_interruptible task.state || is_interruptible task.saved) Woke Missed (λ answer. of_wait answer ≡ false) (λ its. refl) (λ its. refl)
 
@@ -268,15 +300,22 @@ module _ (s : State) (t : TaskId) (e : Event) (answer : Reply) (of : of_wait ans
 
   pub answers : IsNext s t e → Answers s t e answer
   answers (by_own call a is) = let own : a ≡ answer = some-same (told _ is.event) in by_itself call (subst (λ (b : Reply). IsOwn s t call b e) own is)
-  answers (by_acquire l (is_fast is)) = other _ is.event refl
+  answers (by_acquire l (is_fast is)) = other _ is.event (got-other (call_of (thread_part s t)))
   answers (by_acquire l (is_mark is)) = other _ is.event refl
-  answers (by_acquire l (is_take is)) = other _ is.event refl
+  answers (by_acquire l (is_take is)) = other _ is.event (got-other (call_of (thread_part s t)))
   answers (by_acquire l (is_busy is)) = other _ is.event refl
   answers (by_wait l (is_wait is)) = other _ is.event refl
   answers (by_wait l (is_again is)) = other _ is.event refl
   answers (by_wait l (is_leave is)) = by_ending (ended_leave l (sym (walk-answer replies.Interrupted answer _ (told _ is.event))) is)
-  answers (by_release l (is_free is)) = other _ is.event refl
-  answers (by_release l (is_give is)) = other _ is.event refl
+  answers (by_release l (is_free is)) = other _ is.event (given-other (call_of (thread_part s t)))
+  answers (by_release l (is_give is)) = other _ is.event (given-other (call_of (thread_part s t)))
+  answers (by_reading l is) =
+      other e refl
+      (reading-holds (λ phase x. of_reply x.reply ≡ false) s t l e is
+      (record {
+        read = refl; let_in = refl; shut = refl; tryshut = refl; out = out-other (wakes_writer (without_reader (reader_part s l))); wwake = refl; unbias = refl;
+        written = refl; late = refl; sleep = refl; again = refl; given_up = refl; opened = refl; downgraded = refl;
+      }))
   answers (by_walk route u (is_walk l key is)) = short_done route u _ is.how (told _ is.event)
   answers (by_walk route u (is_walkend is)) = short_done route u _ is.how (told _ is.event)
   answers (by_confirm l path (is_restart link is)) = other _ is.event refl
@@ -314,16 +353,31 @@ released-other false answer is of = let other : of_wait replies.NotOwner ≡ of_
 abbrev pub IsOnHeld : State → TaskId → Event → Type 0
 IsOnHeld s t e = (l : LockId) × (e.lock ≡ Some l) × ((hold_of (thread_part s t) l).owns ≡ true)
 
+-- such an answer is deadlock, of this lock
+abbrev Refuses : State → TaskId → LockId → Reply → Type 0
+Refuses s t l answer = (answer ≡ replies.Deadlock) × ((hold_of (thread_part s t) l).owns ≡ true)
+
 -- such an answer that it gives at once is deadlock, of a lock that it holds
 pub own-held : (s : State) (t : TaskId) (call : Call) (answer : Reply) (e : Event) → IsOwn s t call answer e → of_wait answer ≡ true → (answer ≡ replies.Deadlock) × IsOnHeld s t e
 own-held s t (calls.Lock l) answer e is of = let both = nested-held _ _ answer is.why of in (both.0, (l, ap (λ (x : Event). x.lock) is.event, both.1))
 own-held s t (calls.LockInt l) answer e is of = let both = nested-held _ _ answer is.why of in (both.0, (l, ap (λ (x : Event). x.lock) is.event, both.1))
 own-held s t (calls.Spin l) answer e is of = let both = spin-held _ answer is.why in (both.0, (l, ap (λ (x : Event). x.lock) is.event, both.1))
+own-held s t (calls.Read l) answer e is of =
+    let both = read-holds (λ (own : Option Reply). own ≡ Some answer → Refuses s t l answer) l (Some (kind_of (thread_part s t) l)) _ _ _ (λ why. nested-held _ _ answer why of) (spin-held _ answer) is.why in
+    (both.0, (l, ap (λ (x : Event). x.lock) is.event, both.1))
+own-held s t (calls.Write l) answer e is of =
+    let both = write-holds (λ (own : Option Reply). own ≡ Some answer → Refuses s t l answer) l (Some (kind_of (thread_part s t) l)) _ _ _ (λ why. nested-held _ _ answer why of) (spin-held _ answer) is.why in
+    (both.0, (l, ap (λ (x : Event). x.lock) is.event, both.1))
 own-held s t (calls.Unlock l) answer e is of = absurd (released-other _ answer is.why of)
 own-held s t (calls.Unspin l) answer e is of = absurd (released-other _ answer is.why of)
+own-held s t (calls.Unread l) answer e is of = absurd (released-other _ answer is.why of)
+own-held s t (calls.Unwrite l) answer e is of = absurd (released-other _ answer is.why of)
+own-held s t (calls.Downgrade l) answer e is of = absurd (released-other _ answer is.why of)
 own-held s t calls.Schedule answer e is of = absurd (passed-other _ answer is.why of)
 own-held s t (calls.TryLock l) answer e is of = let why = is.why in cc
 own-held s t (calls.TrySpin l) answer e is of = let why = is.why in cc
+own-held s t (calls.TryRead l) answer e is of = let why = is.why in cc
+own-held s t (calls.TryWrite l) answer e is of = let why = is.why in cc
 own-held s t (calls.State state) answer e is of = let why = is.why in cc
 own-held s t (calls.Wake u) answer e is of = let why = is.why in cc
 own-held s t (calls.Signal u) answer e is of = let why = is.why in cc

@@ -1,5 +1,5 @@
 -- A run passes over no cycle.
-use Rattle.std.proofs.Common.{◌≡◌, ◌≢◌, ◌⊎◌, inl, inr, ℕ, ◌+◌, List, ◌∷◌, length, refl, sym, ap, ◌∙◌, subst, Some, None}
+use Rattle.std.proofs.Common.{◌≡◌, ◌≢◌, ◌⊎◌, inl, inr, ℕ, ◌+◌, List, ◌∷◌, length, true, refl, sym, ap, ◌∙◌, subst, Some, None}
 use Rattle.rt_base.specs.declared.id.LockId.{LockId}
 use Rattle.rt_base.specs.declared.id.TaskId.{TaskId}
 use Rattle.rt_base.specs.declared.reply.Reply.TheVariants.{Deadlock}
@@ -18,11 +18,13 @@ use Rattle.rt_model.specs.laws.Lawful.{IsLawful}
 use Rattle.rt_model.specs.laws.Responsible.{IsAlong, IsResponsible}
 use Rattle.rt_model.specs.laws.Cycles.{IsPast, IsWalkAlong, TellsCycle, BreaksCycle, NamesBroken, CyclesLaw}
 use Rattle.rt_model.proofs.Calm.{wakeup-at}
-use Rattle.rt_model.proofs.NextEvents.{IsNext, by_own, by_acquire, by_wait, by_release, by_walk, by_confirm, by_wakeup, by_setprio, task-IsNext}
+use Rattle.rt_model.proofs.Idle.{IsIdle, asks-idle, acquires-idle, returns-idle}
+use Rattle.rt_model.proofs.NextEvents.{IsNext, by_own, by_acquire, by_wait, by_release, by_reading, by_walk, by_confirm, by_wakeup, by_setprio, task-IsNext}
 use Rattle.rt_model.proofs.Sorts.{Sort, unsorted, begins, breaks, heeds, is_sorted, sort}
+use Rattle.rt_model.proofs.Reading.{is_idle, reading-was_idle}
 use Rattle.rt_model.proofs.PartsAfter.{thread-other}
 use Rattle.rt_model.proofs.Waiters.{blocking}
-use Rattle.rt_model.proofs.events.Acquire.{AcquiresIn, by_lock, by_trying, TakesIn, from_slow, from_wait, from_trying, is_fast, is_mark, is_take, is_busy}
+use Rattle.rt_model.proofs.events.Acquire.{TakesIn, from_slow, from_wait, from_trying, is_fast, is_mark, is_take, is_busy}
 use Rattle.rt_model.proofs.events.Release.{is_free, is_give}
 use Rattle.rt_model.proofs.events.Wait.{is_wait, is_again, is_leave}
 use Rattle.rt_model.proofs.events.Walk.{WalksIn, by_full, by_short, IsWalk, is_walk, IsWalkEnd, is_walkend, is_restart, is_cycle}
@@ -83,24 +85,30 @@ module _ (s : State) (made : ℕ) (t : TaskId) (e : Event) (cycle : List (ℕ ×
   taken l (from_wait asks awake) = at_phase phases.Wait asks.at.phased
   taken l (from_trying at) = at_phase phases.Start at.at.phased
 
-  acquired : (l : LockId) → AcquiresIn s t l → ⊥
-  acquired l (by_lock asks unheld) = at_phase phases.Start asks.at.phased
-  acquired l (by_trying at) = at_phase phases.Start at.at.phased
+  -- an idle one walks along none
+  idle : IsIdle s t → ⊥
+  idle is = by_phase (thread_part s t).phase is (phase-along s cycle t first responsible)
+    where
+      by_phase : (phase : Phase) → is_idle phase ≡ true → IsAlong cycle phase → ⊥
+      by_phase (phases.Walk cursor route) is along = cc
+      by_phase (phases.Confirm path) is along = cc
+      by_phase _ is along = along
 
   pub follows : Follows
   follows = by_family next
     where
       by_family : IsNext s t e → Follows
       by_family (by_own call answer is) = absurd (at_phase phases.Start is.at.phased)
-      by_family (by_acquire l (is_fast is)) = absurd (acquired l is.how)
-      by_family (by_acquire l (is_mark is)) = absurd (at_phase phases.Start is.at.at.phased)
+      by_family (by_acquire l (is_fast is)) = absurd (idle (acquires-idle s t l is.how))
+      by_family (by_acquire l (is_mark is)) = absurd (idle (asks-idle s t l is.how))
       by_family (by_acquire l (is_take is)) = absurd (taken l is.how)
       by_family (by_acquire l (is_busy is)) = absurd (at_phase phases.Start is.at.at.phased)
       by_family (by_wait l (is_wait is)) = absurd (at_phase phases.Slow is.at.at.phased)
       by_family (by_wait l (is_again is)) = absurd (at_phase phases.Wait is.at.at.phased)
       by_family (by_wait l (is_leave is)) = absurd (at_phase phases.Wait is.at.phased)
-      by_family (by_release l (is_free is)) = absurd (at_phase phases.Start is.at.at.phased)
-      by_family (by_release l (is_give is)) = absurd (at_phase phases.Start is.at.at.phased)
+      by_family (by_release l (is_free is)) = absurd (idle (returns-idle s t l is.at))
+      by_family (by_release l (is_give is)) = absurd (idle (returns-idle s t l is.at))
+      by_family (by_reading l is) = absurd (idle (reading-was_idle s t l e is))
       by_family (by_walk route u (is_walk l key is)) = linked route u l key is
       by_family (by_walk route u (is_walkend is)) = ended route u is
       by_family (by_confirm l path (is_restart link is)) =

@@ -28,8 +28,8 @@ idle-start script t =
     All-read (λ (thread : ThreadPart). thread.phase ≡ Start) (start script).threads t.0 no_thread (All-made (λ (thread : ThreadPart). thread.phase ≡ Start) fresh (λ line. refl) script.tasks) refl
 
 pub sound : (script : Script) (events : List Event) → IsScript script → IsPlayable script → IsRun (start script) events → IsSound script events
-sound script events valid mutexes run =
-    let lawful = IsLawful-start script valid mutexes in
+sound script events valid playable run =
+    let lawful = IsLawful-start script valid playable in
     record {
       holders = holders-law (start script) 0 events lawful run (owner-start script);
       priorities = λ prefix rest is. priority-law (after (start script) prefix) _ (lawful-there (start script) 0 events lawful run prefix rest is);

@@ -43,7 +43,7 @@ requeues _ = false
 
 -- ---- a sleep for readers leaves what a task is blocked on
 
-restored-blocked : (spinning : Bool) (task : TaskPart) → (restored spinning task).blocked ≡ task.blocked
+pub restored-blocked : (spinning : Bool) (task : TaskPart) → (restored spinning task).blocked ≡ task.blocked
 restored-blocked true task = refl
 restored-blocked false task = refl
 
@@ -53,7 +53,7 @@ saved_for-blocked states.Running task = refl
 saved_for-blocked states.Interruptible task = refl
 saved_for-blocked states.Uninterruptible task = refl
 
-writer_rests-blocked : (phase : Phase) (rest : TaskState) (task : TaskPart) → (writer_rests phase rest task).blocked ≡ task.blocked
+pub writer_rests-blocked : (phase : Phase) (rest : TaskState) (task : TaskPart) → (writer_rests phase rest task).blocked ≡ task.blocked
 writer_rests-blocked phases.WWait rest task = refl
 writer_rests-blocked _ rest task = saved_for-blocked rest task
 

@@ -5,12 +5,12 @@ use Rattle.std.proofs.lemmas.Bool.{cond_both, not-false}
 use Rattle.rt_base.specs.declared.id.LockId.{LockId}
 use Rattle.rt_base.specs.declared.state.TaskState.{TaskState}
 use Rattle.rt_base.specs.declared.state.TaskState.TheVariants as states
-use Rattle.rt_model.specs.declared.phase.Phase.{Phase}
-use Rattle.rt_model.specs.declared.phase.Phase.TheVariants as phases
 use Rattle.rt_model.specs.Parts.{TaskPart, least, keys_in, effective_of}
 use Rattle.rt_model.specs.declared.row.Row.{Row}
 use Rattle.rt_model.specs.Rows.{top_key, top_changed}
 use Rattle.rt_model.specs.steps.Task.{saved_for, blocked_on, restored, leave_queue, interrupted, woken_up, signalled, woken_by, lock_woken, sleeps, is_interruptible, with_top, refreshed}
+use Rattle.rt_model.specs.declared.phase.Phase.{Phase}
+use Rattle.rt_model.specs.declared.phase.Phase.TheVariants as phases
 use Rattle.rt_model.specs.events.Readers.{writer_rests}
 use Rattle.rt_model.specs.steps.Chain.{is_old, has_old_key, rekeyed, refreshed_where_changed}
 use Rattle.rt_model.proofs.Numbers.{same_number}
@@ -23,11 +23,6 @@ pub record IsLike (task other : TaskPart) : Type 0 where
 pub effective-like : {task other : TaskPart} → IsLike task other → effective_of other ≡ effective_of task
 effective-like {task} {other} is = ap (λ (n : ℕ). least n (keys_in other.kept)) is.own ∙ ap (λ (kept : List (Option ℕ)). least task.own (keys_in kept)) is.kept
 
--- a task that is woken, rests or ends its rest has the same lock that it is blocked on
-pub record IsWoken (task other : TaskPart) : Type 0 where
-  pub like : IsLike task other
-  pub blocked : other.blocked ≡ task.blocked
-
 -- ---- leave_queue
 
 pub leave_queue-blocked : (spinning : Bool) (task : TaskPart) → (leave_queue spinning task).blocked ≡ None
@@ -37,13 +32,13 @@ leave_queue-blocked spinning task = by_blocked task.blocked refl
     by_blocked None none = none
     by_blocked (Some at) some = refl
 
-pub restored-like : (spinning : Bool) (task : TaskPart) → IsWoken task (restored spinning task)
-restored-like true task = record { like = record { own = refl; kept = refl }; blocked = refl }
-restored-like false task = record { like = record { own = refl; kept = refl }; blocked = refl }
+pub restored-like : (spinning : Bool) (task : TaskPart) → IsLike task (restored spinning task)
+restored-like true task = record { own = refl; kept = refl }
+restored-like false task = record { own = refl; kept = refl }
 
 pub leave_queue-like : (spinning : Bool) (task : TaskPart) → IsLike task (leave_queue spinning task)
 leave_queue-like spinning task =
-    let rested = (restored-like spinning task).like in
+    let rested = restored-like spinning task in
     cond_both (is_some task.blocked) (record (restored spinning task) { blocked = None }) task (IsLike task)
     (λ is. record { own = rested.own; kept = rested.kept }) (λ is. record { own = refl; kept = refl })
 
@@ -55,6 +50,11 @@ pub interrupted-like : (spinning : Bool) (task : TaskPart) → IsLike task (inte
 interrupted-like spinning task = let left = leave_queue-like spinning task in record { own = left.own; kept = left.kept }
 
 -- ---- woken
+
+-- a task that is woken has the same lock that it is blocked on
+pub record IsWoken (task other : TaskPart) : Type 0 where
+  pub like : IsLike task other
+  pub blocked : other.blocked ≡ task.blocked
 
 pub woken_up-like : (task : TaskPart) → IsWoken task (woken_up task)
 woken_up-like task =
@@ -82,16 +82,16 @@ lock_woken-like false task = woken_up-like task
 
 -- ---- blocked
 
-saved_for-like : (rest : TaskState) (task : TaskPart) → IsWoken task (saved_for rest task)
-saved_for-like states.LockWait task = record { like = record { own = refl; kept = refl }; blocked = refl }
-saved_for-like _ task = record { like = record { own = refl; kept = refl }; blocked = refl }
+saved_for-like : (rest : TaskState) (task : TaskPart) → IsLike task (saved_for rest task)
+saved_for-like states.LockWait task = record { own = refl; kept = refl }
+saved_for-like _ task = record { own = refl; kept = refl }
 
 pub blocked_on-like : (l : Option LockId) (rest : TaskState) (task : TaskPart) → IsLike task (blocked_on l rest task)
-blocked_on-like l rest task = let saved = (saved_for-like rest task).like in record { own = saved.own; kept = saved.kept }
+blocked_on-like l rest task = let saved = saved_for-like rest task in record { own = saved.own; kept = saved.kept }
 
-pub writer_rests-like : (phase : Phase) (rest : TaskState) (task : TaskPart) → IsWoken task (writer_rests phase rest task)
-writer_rests-like phases.WWait rest task = record { like = record { own = refl; kept = refl }; blocked = refl }
-writer_rests-like _ rest task = let saved = saved_for-like rest task in record { like = record { own = saved.like.own; kept = saved.like.kept }; blocked = saved.blocked }
+pub writer_rests-like : (phase : Phase) (rest : TaskState) (task : TaskPart) → IsLike task (writer_rests phase rest task)
+writer_rests-like phases.WWait rest task = record { own = refl; kept = refl }
+writer_rests-like _ rest task = let saved = saved_for-like rest task in record { own = saved.own; kept = saved.kept }
 
 -- ---- kept tops
 

@@ -29,7 +29,7 @@ use Rattle.rt_model.specs.StateAfter.{state_after}
 use Rattle.rt_model.specs.laws.Keys.{StandsAt, IsConfirming, IsNamed, KeysLaw}
 use Rattle.rt_model.specs.laws.Lawful.{IsLawful}
 use Rattle.rt_model.specs.laws.Owners.{owned_by}
-use Rattle.rt_model.proofs.Blocked.{blocked-other}
+use Rattle.rt_model.proofs.Blocked.{restored-blocked, writer_rests-blocked, blocked-other}
 use Rattle.rt_model.proofs.CellStepLemmas.{IsWoken, effective-like, leave_queue-blocked, with_top-blocked, woken_by-like, lock_woken-like, blocked_on-like, restored-like, writer_rests-like, right_key}
 use Rattle.rt_model.proofs.Calling.{asks-lock}
 use Rattle.rt_model.proofs.Calm.{wakeup-kind, wakeup-task, wakeup-at}
@@ -179,8 +179,12 @@ key-own kinds.Give e th is found lock task was = cc
 key-own kinds.Take e th is found lock task was =
     let left : TaskPart = leave_queue (spins (kind_named th e.lock)) task in
     unblocked-key (with_top e.lock (top_key lock.rows) left) (with_top-blocked e.lock (top_key lock.rows) left ∙ leave_queue-blocked (spins (kind_named th e.lock)) task)
-key-own kinds.WTake e th is found lock task was = woken-key (restored-like (spins (kind_named th e.lock)) task) was
-key-own kinds.WSleep e th is found lock task was = woken-key (writer_rests-like th.phase (rest_of (kind_named th e.lock) (call_of th)) task) was
+key-own kinds.WTake e th is found lock task was =
+    let spinning = spins (kind_named th e.lock) in
+    woken-key (record { like = restored-like spinning task; blocked = restored-blocked spinning task }) was
+key-own kinds.WSleep e th is found lock task was =
+    let rest = rest_of (kind_named th e.lock) (call_of th) in
+    woken-key (record { like = writer_rests-like th.phase rest task; blocked = writer_rests-blocked th.phase rest task }) was
 key-own _ e th is found lock task was = was
 
 key-others : (kind : EventKind) (e : Event) (th : ThreadPart) → keeps_keys kind ≡ true → (found : Around) (lock : OwnerPart) → OthersKeep HasKey (effect kind e th found) lock

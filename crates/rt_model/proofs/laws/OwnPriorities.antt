@@ -53,8 +53,8 @@ range-own kinds.Wait e th found lock task was = range-like (blocked_on-like e.lo
 range-own kinds.Leave e th found lock task was = range-like (interrupted-like (spins (kind_named th e.lock)) task) was
 range-own kinds.Cycle e th found lock task was = range-like (leave_queue-like (spins (kind_named th e.lock)) task) was
 range-own kinds.Give e th found lock task was = range-with_top e.lock None task was
-range-own kinds.WTake e th found lock task was = range-like (restored-like (spins (kind_named th e.lock)) task).like was
-range-own kinds.WSleep e th found lock task was = range-like (writer_rests-like th.phase (rest_of (kind_named th e.lock) (call_of th)) task).like was
+range-own kinds.WTake e th found lock task was = range-like (restored-like (spins (kind_named th e.lock)) task) was
+range-own kinds.WSleep e th found lock task was = range-like (writer_rests-like th.phase (rest_of (kind_named th e.lock) (call_of th)) task) was
 range-own _ e th found lock task was = was
 
 range-others : (kind : EventKind) (e : Event) (th : ThreadPart) (found : Around) (lock : OwnerPart) → SetsWithin kind e.value → OthersKeep IsInRange (effect kind e th found) lock

@@ -16,7 +16,7 @@ ghost use Rattle.rt_model.specs.steps.Chain.{followed, goes_on, phase_of_walk};
 ghost use Rattle.rt_model.specs.events.Walk.{phase_after_link, phase_after_end};
 ghost use Rattle.rt_walk.specs.Next.{found};
 ghost use Rattle.rt_parts.specs.Links.{HasRoom, walk_to, phase_told};
-ghost use Rattle.rt_parts.specs.Thread.{AreBelow, CanUnpin, CanCount};
+ghost use Rattle.rt_parts.specs.Thread.{CanReadMore, CanUnpin, HasRead, HasPin, CanAnswer};
 
 use rt_base::limits::{MAX_CALLS, MAX_LOCKS, MAX_TASKS};
 use rt_base::{Call, Cpu, Kind, LockId, NoMemory, Path, Reply, TaskId, TaskState};
@@ -277,7 +277,7 @@ impl Thread {
     /// The call that it is at has this answer, and it goes to the start of the next one.
     pub fn answer(&mut self, reply: Reply)
         requires call { IsSome (call_of self.old) }
-        requires count { CanCount self.old (call_of self.old) reply }
+        requires can { CanAnswer self.old (call_of self.old) reply }
         ensures { self.new ≡ answered_with self.old (Some reply) }
     {
         let Some(call) = self.call() else { return };
@@ -291,8 +291,8 @@ impl Thread {
     // reader.
     fn note_answer(&mut self, call: &Call, reply: Reply)
         requires served { IsServed MAX_TASKS (length self.old.kinds) call.now }
-        requires reads { AreBelow self.old.answered self.old.holds }
-        requires count { CanCount self.old (Some call.now) reply }
+        requires reads { CanReadMore self.old }
+        requires read { HasRead self.old (Some call.now) reply }
         ensures { self.new ≡ record self.old { holds = holds_after self.old (Some call.now) reply } }
     {
         match (call, reply) {
@@ -321,7 +321,7 @@ impl Thread {
     fn count_answer(&mut self, call: &Call, reply: Reply)
         requires served { IsServed MAX_TASKS (length self.old.kinds) call.now }
         requires room { self.old.migration < self.old.answered }
-        requires count { CanCount self.old (Some call.now) reply }
+        requires pin { HasPin self.old (Some call.now) reply }
         ensures { self.new ≡ record self.old { migration = migration_after self.old (Some call.now) reply } }
     {
         match (call, reply) {
@@ -350,7 +350,7 @@ impl Thread {
     // And one less counts one less.
     fn unpin(&mut self, l: LockId)
         requires lock { l.0 < length self.old.kinds }
-        requires count { CanUnpin (kind_of self.old l) self.old.migration }
+        requires pin { CanUnpin (kind_of self.old l) self.old.migration }
         ensures { self.new ≡ record self.old { migration = unpinned_by (kind_of self.old l) self.old.migration } }
     {
         if let Kind::RwLock = self.kind_of(l) {

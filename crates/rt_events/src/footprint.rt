@@ -5,6 +5,7 @@ ghost use Rattle.rt_model.specs.Footprint.{same_object, owner_parts, reader_part
 ghost use Rattle.rt_model.specs.Rules.{touched};
 ghost use Rattle.rt_model.specs.Path.{first_owner};
 ghost use Rattle.rt_model.specs.events.Acquire.{busy_touched};
+ghost use Rattle.rt_model.specs.events.Readers.{where_slept};
 ghost use Rattle.rt_model.specs.declared.obj.Obj.{Obj};
 ghost use Rattle.rt_events.specs.Touched.{path_tasks, Tells};
 
@@ -70,12 +71,12 @@ fn any_besides<F: Fn(Obj) -> bool>(e: &Event, test: &F) -> bool
             any_owner_part(e.lock, test) || any_task(own, test) || any_task(e.woken, test)
         }
         EventKind::Walk => any_owner_part(e.lock, test) || any_walked(e, test),
-        EventKind::WWake => any_owner_part(e.lock, test) || any_task(e.owner, test),
+        EventKind::WWake => any_owner_part(e.lock, test) || any_task(e.woken, test),
         EventKind::Busy => any_looked_at(e, test),
         EventKind::RIn | EventKind::ROut | EventKind::Unbias | EventKind::WOpen => {
             any_reader_part(e.lock, test)
         }
-        EventKind::WTake => any_reader_part(e.lock, test) || any_task(e.owner, test),
+        EventKind::WTake => any_reader_part(e.lock, test) || any_task(slept(e), test),
         EventKind::WSleep => any_reader_part(e.lock, test) || any_task(own, test),
         EventKind::Restart => any_along(&e.path, test),
         EventKind::Cycle => {
@@ -116,6 +117,16 @@ fn any_looked_at<F: Fn(Obj) -> bool>(e: &Event, test: &F) -> bool
         any_owner_part(e.lock, test)
     } else {
         any_owner_part(e.lock, test) || any_task(Some(e.task), test)
+    }
+}
+
+// The task of a writer's event, where it has slept: it is named as the owner then.
+fn slept(e: &Event) -> Option<TaskId>
+    ensures { result ≡ where_slept e.now.task e.now.owner }
+{
+    match e.owner {
+        Some(_) => Some(e.task),
+        None => None,
     }
 }
 

@@ -3,6 +3,7 @@ use Rattle.std.proofs.Common.{◌≡◌, ℕ, zero, suc, ◌+◌, ◌<◌, ◌�
 use Rattle.std.specs.Prelude.{slice_set, nat_lt}
 use Rattle.std.proofs.lemmas.Bool.{cond_both}
 use Rattle.std.proofs.lemmas.List.{length-replicate}
+use Rattle.std.proofs.lemmas.List.Elements.{All-replicate}
 use Rattle.rt_base.specs.Kind.{spins}
 use Rattle.rt_base.specs.declared.call.Call.{Call}
 use Rattle.rt_base.specs.declared.kind.Kind.{Kind}
@@ -10,18 +11,17 @@ use Rattle.rt_base.specs.declared.id.LockId.{LockId}
 use Rattle.rt_base.specs.declared.limits.TheConstants.{MAX_CALLS, MAX_LOCKS, MAX_TASKS}
 use Rattle.rt_model.specs.declared.hold.Hold.{Hold}
 use Rattle.rt_model.specs.Stage.{IsServed}
-use Rattle.rt_model.specs.Parts.{ThreadPart}
-use Rattle.rt_model.specs.steps.Thread.{with_hold}
+use Rattle.rt_model.specs.Parts.{ThreadPart, hold_of}
 use Rattle.rt_model.specs.events.Own.{spinning_hold, spinning_holds}
 use Rattle.rt_parts.specs.Thread.{IsPrivate}
 use Rattle.rt_parts.proofs.SharedSteps.{read-index}
 
--- a hold that is written is the thread's hold of the lock
-pub hold-set : (was now : ThreadPart) (l : LockId) (hold : Hold) (owns : Bool) → was ≡ now → l.0 < length was.holds → hold ≡ get_or was.holds l.0 hold
-    → record was { holds = slice_set was.holds l.0 (record hold { owns = owns }) } ≡ record now { holds = with_hold now l owns }
-hold-set was now l hold owns is lt at =
-    subst (λ (thread : ThreadPart). record was { holds = slice_set was.holds l.0 (record hold { owns = owns }) } ≡ record thread { holds = with_hold thread l owns }) is
-    (ap (λ (h : Hold). record was { holds = slice_set was.holds l.0 (record h { owns = owns }) }) (at ∙ sym (read-index was.holds l.0 hold _ lt)))
+-- a hold that is written, made of the one before, is made of the thread's hold of the lock
+pub hold-set : (was now : ThreadPart) (l : LockId) (hold : Hold) (made : Hold → Hold) → was ≡ now → l.0 < length was.holds → hold ≡ get_or was.holds l.0 hold
+    → record was { holds = slice_set was.holds l.0 (made hold) } ≡ record now { holds = slice_set now.holds l.0 (made (hold_of now l)) }
+hold-set was now l hold made is lt at =
+    subst (λ (thread : ThreadPart). record was { holds = slice_set was.holds l.0 (made hold) } ≡ record thread { holds = slice_set thread.holds l.0 (made (hold_of thread l)) }) is
+    (ap (λ (h : Hold). record was { holds = slice_set was.holds l.0 (made h) }) (at ∙ sym (read-index was.holds l.0 hold _ lt)))
 
 -- ---- spinning kinds
 
@@ -68,13 +68,15 @@ spinning-none (kind ∷ kinds) = omega (arith, none_of (spins kind), spinning-no
 
 -- a thread that has made no call, and holds nothing
 pub fresh-fits : (kinds : List Kind) (calls : List Call) (ks : List Kind) (cs : List Call) (holds : List Hold) → ks ≡ kinds → cs ≡ calls → holds ≡ replicate (length kinds) (record { owns = false; reads = 0 })
-    → length calls ≤ MAX_CALLS → length kinds ≤ MAX_LOCKS → All (IsServed MAX_TASKS (length kinds)) calls → IsPrivate ks cs 0 holds 0
+    → length calls ≤ MAX_CALLS → length kinds ≤ MAX_LOCKS → All (IsServed MAX_TASKS (length kinds)) calls → IsPrivate ks cs 0 holds 0 0
 fresh-fits kinds calls ks cs holds is_kinds is_calls is_holds few few_locks served =
-    let fresh : IsPrivate kinds calls 0 (replicate (length kinds) (record { owns = false; reads = 0 })) 0 = record {
+    let fresh : IsPrivate kinds calls 0 (replicate (length kinds) (record { owns = false; reads = 0 })) 0 0 = record {
       thread = record { within = omega arith; few = few; served = served };
       few = few_locks;
       holds = length-replicate (length kinds) _;
       spinning = sym (spinning-none kinds);
+      reads = All-replicate (λ (hold : Hold). hold.reads ≤ 0) (length kinds) _ (omega arith);
+      pinned = omega arith;
     } in
-    subst (λ (xs : List Kind). IsPrivate xs cs 0 holds 0) (sym is_kinds)
-    (subst (λ (xs : List Call). IsPrivate kinds xs 0 holds 0) (sym is_calls) (subst (λ (xs : List Hold). IsPrivate kinds calls 0 xs 0) (sym is_holds) fresh))
+    subst (λ (xs : List Kind). IsPrivate xs cs 0 holds 0 0) (sym is_kinds)
+    (subst (λ (xs : List Call). IsPrivate kinds xs 0 holds 0 0) (sym is_calls) (subst (λ (xs : List Hold). IsPrivate kinds calls 0 xs 0 0) (sym is_holds) fresh))

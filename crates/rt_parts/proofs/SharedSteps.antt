@@ -1,11 +1,12 @@
 -- One cell of the shared parts written anew, as an update of the parts.
-use Rattle.std.proofs.Common.{◌≡◌, ◌∙◌, ℕ, zero, suc, ◌<◌, List, [], ◌∷◌, length, get_or, refl, sym, ap, subst, arith, Option, Some, unwrap_or}
+use Rattle.std.proofs.Common.{◌≡◌, ◌∙◌, ℕ, zero, suc, ◌<◌, List, [], ◌∷◌, length, length-set, get_or, refl, sym, ap, subst, arith, Option, Some, unwrap_or}
 use Rattle.std.specs.Prelude.{slice_set, slice_get}
+use Rattle.std.proofs.lemmas.List.{get_or-set_same}
 use Rattle.rt_base.specs.declared.id.LockId.{LockId}
 use Rattle.rt_base.specs.declared.id.TaskId.{TaskId}
 use Rattle.rt_model.specs.declared.reader_cell.ReaderCell.{ReaderCell}
 use Rattle.rt_model.specs.Parts.{OwnerPart, TaskPart}
-use Rattle.rt_model.specs.State.{Shared, lock_in, task_in}
+use Rattle.rt_model.specs.State.{Shared, lock_in, readers_in, task_in}
 use Rattle.rt_model.specs.StateAfter.{update, at_task}
 use Rattle.rt_model.proofs.Lists.{update-index}
 use Rattle.rt_locks.specs.OwnerCell.{OwnerCell}
@@ -40,6 +41,24 @@ module _ (cells : List OwnerCell) (readers : List ReaderCell) (tasks : List Task
   lock-set i cell left f lt at changed =
       subst (λ (sh : Shared). made_of (slice_set cells i left) readers tasks ≡ record sh { locks = update sh.locks i f }) is
       (ap (λ (locks : List OwnerPart). record { locks = locks; readers = readers; tasks = tasks }) (parts-set cells i cell left f (lock-there i lt) at changed))
+
+  -- the reader part of a lock that is there, and the same with another in its place
+  pub reader-there : length readers ≡ length cells → (i : ℕ) → i < length now.locks → i < length readers
+  reader-there long i lt = subst (λ (n : ℕ). i < n) (sym long) (lock-there i lt)
+
+  pub reader-at : (l : LockId) (cell : ReaderCell) → length readers ≡ length cells → l.0 < length now.locks → cell ≡ get_or readers l.0 cell → cell ≡ readers_in now l
+  reader-at l cell long lt at = at ∙ (sym (read-index readers l.0 cell _ (reader-there long l.0 lt)) ∙ ap (λ (sh : Shared). readers_in sh l) is)
+
+  pub reader-set : (i : ℕ) (cell left : ReaderCell) (f : ReaderCell → ReaderCell) → length readers ≡ length cells → i < length now.locks → cell ≡ get_or readers i cell → left ≡ f cell
+      → made_of cells (slice_set readers i left) tasks ≡ record now { readers = update now.readers i f }
+  reader-set i cell left f long lt at changed =
+      let set : slice_set readers i left ≡ update readers i f = ap (slice_set readers i) (changed ∙ ap f at) ∙ sym (update-index readers i cell f (reader-there long i lt)) in
+      subst (λ (sh : Shared). made_of cells (slice_set readers i left) tasks ≡ record sh { readers = update sh.readers i f }) is
+      (ap (λ (all : List ReaderCell). record { locks = parts_of cells; readers = all; tasks = tasks }) set)
+
+  -- which is read there then
+  pub reader-read : (l : LockId) (left : ReaderCell) → length readers ≡ length cells → l.0 < length now.locks → readers_in (made_of cells (slice_set readers l.0 left) tasks) l ≡ left
+  reader-read l left long lt = read-index (slice_set readers l.0 left) l.0 left _ (subst (λ (n : ℕ). l.0 < n) (sym (length-set readers l.0 left)) (reader-there long l.0 lt)) ∙ get_or-set_same readers l.0 left left (reader-there long l.0 lt)
 
   -- another task
   pub task-set : (i : ℕ) (task left : TaskPart) (f : TaskPart → TaskPart) → i < length now.tasks → task ≡ get_or tasks i task → left ≡ f task

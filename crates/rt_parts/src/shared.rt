@@ -5,6 +5,7 @@ ghost use Rattle.rt_model.specs.State.{start, shared, lock_in, readers_in, task_
 
 mod links;
 mod locks;
+mod readers;
 mod tasks;
 
 use crate::start::{lock_cells, task_cells};

@@ -1,21 +1,22 @@
-ghost use Rattle.std.specs.Prelude.{◌≡◌, ◌≤◌, ◌<◌, length, IfOk, IfSome, IsSome, All, Option, None, Some};
+ghost use Rattle.std.specs.Prelude.{◌≡◌, ◌≤◌, ◌<◌, length, slice_set, IfOk, IfSome, IsSome, All, Option, None, Some};
 ghost use Rattle.rt_base.specs.declared.id.TaskId.{TaskId};
 ghost use Rattle.rt_model.specs.declared.phase.Phase.TheVariants.{Walk};
 ghost use Rattle.rt_model.specs.declared.phase.Route.TheVariants.{Full, Short};
-ghost use Rattle.rt_model.specs.Parts.{TaskPart, call_of, kind_of};
+ghost use Rattle.rt_model.specs.Parts.{TaskPart, call_of, hold_of, kind_of};
 ghost use Rattle.rt_model.specs.State.{fresh_thread};
 ghost use Rattle.rt_model.specs.Stage.{IsServed};
 ghost use Rattle.rt_model.specs.Choice.{called_lock};
 ghost use Rattle.rt_model.specs.events.Own.{is_held, spinning_hold, spinning_holds};
 ghost use Rattle.rt_model.specs.steps.Task.{rest_of, sleep_of};
-ghost use Rattle.rt_model.specs.steps.Thread.{answered_with, holds_after, migration_after, with_hold};
+ghost use Rattle.rt_model.specs.steps.Thread.{phase_after_got, phase_after_busy, pinned_by, unpinned_by, answered_with, holds_after, migration_after, with_hold, with_read, without_read, downgraded};
+ghost use Rattle.rt_model.specs.events.Readers.{phase_after_rin};
 ghost use Rattle.rt_model.specs.Run.{is_at_end};
 ghost use Rattle.rt_model.specs.Order.{in_walk};
 ghost use Rattle.rt_model.specs.steps.Chain.{followed, goes_on, phase_of_walk};
 ghost use Rattle.rt_model.specs.events.Walk.{phase_after_link, phase_after_end};
 ghost use Rattle.rt_walk.specs.Next.{found};
 ghost use Rattle.rt_parts.specs.Links.{HasRoom, walk_to, phase_told};
-ghost use Rattle.rt_parts.specs.Thread.{CanCount};
+ghost use Rattle.rt_parts.specs.Thread.{CanReadMore, CanUnpin, HasRead, HasPin, CanAnswer};
 
 use rt_base::limits::{MAX_CALLS, MAX_LOCKS, MAX_TASKS};
 use rt_base::{Call, Cpu, Kind, LockId, NoMemory, Path, Reply, TaskId, TaskState};
@@ -55,7 +56,7 @@ impl Model for Thread {
     ghost use Rattle.std.specs.Prelude.{◌≤◌, length};
     ghost use Rattle.rt_parts.specs.Thread.{IsPrivate};
 
-    ghost invariant = { λ t. IsPrivate t.kinds.items t.calls.items t.answered t.holds.items t.spinning };
+    ghost invariant = { λ t. IsPrivate t.kinds.items t.calls.items t.answered t.holds.items t.spinning t.migration };
 }
 
 impl Thread {
@@ -157,7 +158,14 @@ impl Thread {
             | Call::Unlock(l)
             | Call::Spin(l)
             | Call::TrySpin(l)
-            | Call::Unspin(l) => Some(*l),
+            | Call::Unspin(l)
+            | Call::Read(l)
+            | Call::TryRead(l)
+            | Call::Unread(l)
+            | Call::Write(l)
+            | Call::TryWrite(l)
+            | Call::Unwrite(l)
+            | Call::Downgrade(l) => Some(*l),
             _ => None,
         }
     }
@@ -187,6 +195,36 @@ impl Thread {
             TaskState::LockWait
         } else {
             sleep_of(self.call())
+        }
+    }
+
+    /// Its call has the owner part of its lock: a reader gets in next, a writer removes the bias, and any other
+    /// call is to be answered.
+    pub fn got(&mut self)
+        ensures { self.new ≡ record self.old { phase = phase_after_got (call_of self.old) self.old.phase } }
+    {
+        match self.call() {
+            Some(Call::Read(_)) => self.phase = Phase::ReadIn,
+            Some(Call::Write(_) | Call::TryWrite(_)) => self.phase = Phase::Unbias,
+            _ => {}
+        }
+    }
+
+    /// Its call finds the lock taken: a reader that waits goes on to the inner lock.
+    pub fn found_busy(&mut self)
+        ensures { self.new ≡ record self.old { phase = phase_after_busy (call_of self.old) self.old.phase } }
+    {
+        if let Some(Call::Read(_)) = self.call() {
+            self.phase = Phase::Inner;
+        }
+    }
+
+    /// Its reader is in: one that has the inner lock is to release it.
+    pub fn read_in(&mut self)
+        ensures { self.new ≡ record self.old { phase = phase_after_rin self.old.phase } }
+    {
+        if let Phase::ReadIn = self.phase {
+            self.phase = Phase::Release;
         }
     }
 
@@ -239,19 +277,22 @@ impl Thread {
     /// The call that it is at has this answer, and it goes to the start of the next one.
     pub fn answer(&mut self, reply: Reply)
         requires call { IsSome (call_of self.old) }
-        requires count { CanCount (call_of self.old) reply self.old.migration }
+        requires can { CanAnswer self.old (call_of self.old) reply }
         ensures { self.new ≡ answered_with self.old (Some reply) }
     {
         let Some(call) = self.call() else { return };
-        self.note_answer(&call, reply);
-        self.count_answer(&call, reply);
         self.answered += 1;
         self.phase = Phase::Start;
+        self.count_answer(&call, reply);
+        self.note_answer(&call, reply);
     }
 
-    // Holds what an acquire got, and no longer what a release gave back.
+    // Holds what an acquire got, and no longer what a release gave back; a writer that downgrades stays as a
+    // reader.
     fn note_answer(&mut self, call: &Call, reply: Reply)
-        requires { IsServed MAX_TASKS (length self.old.kinds) call.now }
+        requires served { IsServed MAX_TASKS (length self.old.kinds) call.now }
+        requires reads { CanReadMore self.old }
+        requires read { HasRead self.old (Some call.now) reply }
         ensures { self.new ≡ record self.old { holds = holds_after self.old (Some call.now) reply } }
     {
         match (call, reply) {
@@ -260,24 +301,60 @@ impl Thread {
                 | Call::LockInt(l)
                 | Call::TryLock(l)
                 | Call::Spin(l)
-                | Call::TrySpin(l),
+                | Call::TrySpin(l)
+                | Call::Write(l)
+                | Call::TryWrite(l),
                 Reply::Got,
             ) => self.set_owns(*l, true),
-            (Call::Unlock(l) | Call::Unspin(l), Reply::Done) => self.set_owns(*l, false),
+            (Call::Unlock(l) | Call::Unspin(l) | Call::Unwrite(l), Reply::Done) => {
+                self.set_owns(*l, false)
+            }
+            (Call::Read(l) | Call::TryRead(l), Reply::Got) => self.read_more(*l),
+            (Call::Unread(l), Reply::Done) => self.read_less(*l),
+            (Call::Downgrade(l), Reply::Done) => self.downgrade(*l),
             _ => {}
         }
     }
 
-    // Counts a spinlock that it got, `migrate_disable` in `rt_spin_lock` and `rt_spin_trylock`, and no longer
-    // one that it gave back, `migrate_enable` in `rt_spin_unlock`.
+    // Counts a spinlock or an `rwlock_t` that it got, `migrate_disable` in `rt_spin_lock`, `rt_read_lock` and
+    // `rt_write_lock`, and no longer one that it gave back, `migrate_enable` in their unlocks.
     fn count_answer(&mut self, call: &Call, reply: Reply)
-        requires { CanCount (Some call.now) reply self.old.migration }
-        ensures { self.new ≡ record self.old { migration = migration_after self.old.migration (Some call.now) reply } }
+        requires served { IsServed MAX_TASKS (length self.old.kinds) call.now }
+        requires room { self.old.migration < self.old.answered }
+        requires pin { HasPin self.old (Some call.now) reply }
+        ensures { self.new ≡ record self.old { migration = migration_after self.old (Some call.now) reply } }
     {
         match (call, reply) {
             (Call::Spin(_) | Call::TrySpin(_), Reply::Got) => self.migration += 1,
             (Call::Unspin(_), Reply::Done) => self.migration -= 1,
+            (
+                Call::Read(l) | Call::TryRead(l) | Call::Write(l) | Call::TryWrite(l),
+                Reply::Got,
+            ) => self.pin(*l),
+            (Call::Unread(l) | Call::Unwrite(l), Reply::Done) => self.unpin(*l),
             _ => {}
+        }
+    }
+
+    // A hold of this lock more counts one where it is an `rwlock_t`.
+    fn pin(&mut self, l: LockId)
+        requires lock { l.0 < length self.old.kinds }
+        requires room { self.old.migration < self.old.answered }
+        ensures { self.new ≡ record self.old { migration = pinned_by (kind_of self.old l) self.old.migration } }
+    {
+        if let Kind::RwLock = self.kind_of(l) {
+            self.migration += 1;
+        }
+    }
+
+    // And one less counts one less.
+    fn unpin(&mut self, l: LockId)
+        requires lock { l.0 < length self.old.kinds }
+        requires pin { CanUnpin (kind_of self.old l) self.old.migration }
+        ensures { self.new ≡ record self.old { migration = unpinned_by (kind_of self.old l) self.old.migration } }
+    {
+        if let Kind::RwLock = self.kind_of(l) {
+            self.migration -= 1;
         }
     }
 
@@ -286,12 +363,69 @@ impl Thread {
         requires { l.0 < length self.old.kinds }
         ensures { self.new ≡ record self.old { holds = with_hold self.old l owns } }
     {
+        let before = self.holds[l.0 as usize];
+        self.set_hold(l, Hold { owns, ..before });
+    }
+
+    // Reads a lock once more.
+    fn read_more(&mut self, l: LockId)
+        requires lock { l.0 < length self.old.kinds }
+        requires room { (hold_of self.old l).reads < self.old.answered }
+        ensures { self.new ≡ record self.old { holds = with_read self.old l } }
+    {
+        let before = self.holds[l.0 as usize];
+        self.set_hold(
+            l,
+            Hold {
+                reads: before.reads + 1,
+                ..before
+            },
+        );
+    }
+
+    // Reads a lock once less.
+    fn read_less(&mut self, l: LockId)
+        requires lock { l.0 < length self.old.kinds }
+        requires some { 0 < (hold_of self.old l).reads }
+        ensures { self.new ≡ record self.old { holds = without_read self.old l } }
+    {
+        let before = self.holds[l.0 as usize];
+        self.set_hold(
+            l,
+            Hold {
+                reads: before.reads - 1,
+                ..before
+            },
+        );
+    }
+
+    // Reads a lock that it wrote.
+    fn downgrade(&mut self, l: LockId)
+        requires lock { l.0 < length self.old.kinds }
+        requires room { (hold_of self.old l).reads < self.old.answered }
+        ensures { self.new ≡ record self.old { holds = downgraded self.old l } }
+    {
+        let before = self.holds[l.0 as usize];
+        self.set_hold(
+            l,
+            Hold {
+                owns: false,
+                reads: before.reads + 1,
+            },
+        );
+    }
+
+    // Holds this of a lock, which is counted where its kind spins.
+    fn set_hold(&mut self, l: LockId, hold: Hold)
+        requires lock { l.0 < length self.old.kinds }
+        requires reads { hold.reads ≤ self.old.answered }
+        ensures { self.new ≡ record self.old { holds = slice_set self.old.holds l.0 hold } }
+    {
         let kind = self.kinds[l.0 as usize];
         let before = self.holds[l.0 as usize];
-        let after = Hold { owns, ..before };
         self.spinning -= spinning_hold(kind, &before);
-        self.spinning += spinning_hold(kind, &after);
-        self.holds[l.0 as usize] = after;
+        self.spinning += spinning_hold(kind, &hold);
+        self.holds[l.0 as usize] = hold;
     }
 }
 

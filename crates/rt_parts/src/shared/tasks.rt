@@ -2,7 +2,7 @@
 ghost use Rattle.std.specs.Prelude.{◌≡◌, ◌<◌, length, false, None, Some, IfSome};
 ghost use Rattle.rt_model.specs.State.{lock_in};
 ghost use Rattle.rt_model.specs.StateAfter.{update, at_task};
-ghost use Rattle.rt_model.specs.steps.Task.{with_top, with_own, refreshed, blocked_on, leave_queue, woken_up, signalled, lock_woken};
+ghost use Rattle.rt_model.specs.steps.Task.{with_top, with_own, refreshed, blocked_on, put_to_rest, restored, leave_queue, woken_up, signalled, lock_woken};
 
 use crate::shared::Shared;
 use rt_base::{LockId, Prio, TaskId, TaskState};
@@ -43,6 +43,24 @@ impl Shared {
         ensures { self.new ≡ record self.old { tasks = update self.old.tasks t.0 (blocked_on (Some l) rest) } }
     {
         self.tasks[t.0 as usize].block(l, rest);
+    }
+
+    /// A task goes to rest in this state, and isn't queued.
+    pub fn put_to_rest(&mut self, t: TaskId, rest: TaskState)
+        requires { t.0 < length self.old.tasks }
+        ensures { self.new ≡ record self.old { tasks = update self.old.tasks t.0 (put_to_rest rest) } }
+    {
+        self.tasks[t.0 as usize].put_to_rest(rest);
+    }
+
+    /// The state of a task is restored after a wait, where one is named.
+    pub fn restore(&mut self, t: Option<TaskId>, spins: bool)
+        requires { IfSome t (λ t. t.0 < length self.old.tasks) }
+        ensures { self.new ≡ record self.old { tasks = at_task self.old.tasks t (restored spins) } }
+    {
+        if let Some(t) = t {
+            self.tasks[t.0 as usize].restore(spins);
+        }
     }
 
     /// A task goes to this state again.

@@ -1,7 +1,7 @@
 // What waits for locks, wakeups and signals make of a task's states.
 ghost use Rattle.std.specs.Prelude.{◌≡◌, ◌||◌, option_map, false, Some, IsSome, if◌then◌else◌};
 ghost use Rattle.rt_model.specs.Parts.{effective_of};
-ghost use Rattle.rt_model.specs.steps.Task.{blocked_on, restored, leave_queue, sleeps, woken_up, is_interruptible, signalled, lock_woken, passes};
+ghost use Rattle.rt_model.specs.steps.Task.{blocked_on, put_to_rest, restored, leave_queue, sleeps, woken_up, is_interruptible, signalled, lock_woken, passes};
 
 use crate::sleep::{is_interruptible, lock_state_woken, runs, sleeps};
 use crate::task_cell::TaskCell;
@@ -44,6 +44,17 @@ impl TaskCell {
     {
         self.saved = self.state;
         self.state = TaskState::LockWait;
+    }
+
+    /// Goes to rest in this state, queued nowhere, as a writer that sleeps for readers. Where that is the
+    /// lock-wait state, the state before is saved, `rwbase_set_and_save_current_state`.
+    pub fn put_to_rest(&mut self, rest: TaskState)
+        ensures { self.new ≡ put_to_rest rest self.old }
+    {
+        if rest == TaskState::LockWait {
+            self.saved = self.state;
+        }
+        self.state = rest;
     }
 
     /// Goes to this state again after a wakeup that came to nothing. The saved state stays.

@@ -1,0 +1,6 @@
+use Rattle.rt_model.specs.steps.Readers.{with_reader}
+use Rattle.rt_parts.proofs.SharedSteps.{reader-set}
+use Rattle.rt_parts.proofs.shared.Shared.read_in.Goals as goal
+
+pub returns : goal.returns
+returns c = reader-set _ _ _ _ c.self.view_is c.args.l.0 c.index.result.now _ with_reader c.self.invariant.readers c.requires.lock c.index.ensures c.read_in.ensures

@@ -21,7 +21,7 @@ use Rattle.rt_model.specs.steps.Readers.{wakes_writer, without_reader}
 use Rattle.rt_model.specs.steps.Thread.{phase_after_busy, answered_with}
 use Rattle.rt_model.specs.events.Readers.{phase_after_rin, rout_event}
 use Rattle.rt_model.proofs.Blocked.{moves, blocked-kept}
-use Rattle.rt_model.proofs.PartsAfter.{locks-kept, thread-made}
+use Rattle.rt_model.proofs.PartsAfter.{locks-kept, thread-own, thread-made}
 use Rattle.rt_model.proofs.events.Readers.{IsReading, reading-in, HoldsOfReading, reading-holds, reading-task}
 
 -- what holds of the kinds of these events
@@ -117,6 +117,12 @@ module _ (s : State) (t : TaskId) (l : LockId) (e : Event) (is : IsReading s t l
       let still : is_idle left.phase ≡ true = subst (λ (v : TaskId). is_idle (thread_after (shared s) (thread_part s v) e).phase ≡ true) task (reading-idle s t l e is) in
       thread-made P s e e u refl (subst (λ (v : TaskId). v.0 < length s.threads) task (reading-in s t l e is).at.task)
       (subst (λ (v : TaskId). P v left) task (idle left still)) (λ others. was)
+
+  -- its own thread is as the effect and the answer say
+  pub reading-left : thread_part (state_after s e) t ≡ thread_after (shared s) (thread_part s t) e
+  reading-left =
+      subst (λ (v : TaskId). v.0 < length s.threads → thread_part (state_after s e) v ≡ thread_after (shared s) (thread_part s v) e) (reading-task s t l e is) (thread-own s e e refl)
+      (reading-in s t l e is).at.task
 
   -- it touches no owner part, and unblocks no task
   pub reading-locks : (m : LockId) → owner_part (state_after s e) m ≡ owner_part s m

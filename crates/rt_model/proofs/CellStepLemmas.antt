@@ -9,6 +9,9 @@ use Rattle.rt_model.specs.Parts.{TaskPart, least, keys_in, effective_of}
 use Rattle.rt_model.specs.declared.row.Row.{Row}
 use Rattle.rt_model.specs.Rows.{top_key, top_changed}
 use Rattle.rt_model.specs.steps.Task.{saved_for, blocked_on, restored, leave_queue, interrupted, woken_up, signalled, woken_by, lock_woken, sleeps, is_interruptible, with_top, refreshed}
+use Rattle.rt_model.specs.declared.phase.Phase.{Phase}
+use Rattle.rt_model.specs.declared.phase.Phase.TheVariants as phases
+use Rattle.rt_model.specs.events.Readers.{writer_rests}
 use Rattle.rt_model.specs.steps.Chain.{is_old, has_old_key, rekeyed, refreshed_where_changed}
 use Rattle.rt_model.proofs.Numbers.{same_number}
 
@@ -29,7 +32,7 @@ leave_queue-blocked spinning task = by_blocked task.blocked refl
     by_blocked None none = none
     by_blocked (Some at) some = refl
 
-restored-like : (spinning : Bool) (task : TaskPart) → IsLike task (restored spinning task)
+pub restored-like : (spinning : Bool) (task : TaskPart) → IsLike task (restored spinning task)
 restored-like true task = record { own = refl; kept = refl }
 restored-like false task = record { own = refl; kept = refl }
 
@@ -85,6 +88,10 @@ saved_for-like _ task = record { own = refl; kept = refl }
 
 pub blocked_on-like : (l : Option LockId) (rest : TaskState) (task : TaskPart) → IsLike task (blocked_on l rest task)
 blocked_on-like l rest task = let saved = saved_for-like rest task in record { own = saved.own; kept = saved.kept }
+
+pub writer_rests-like : (phase : Phase) (rest : TaskState) (task : TaskPart) → IsLike task (writer_rests phase rest task)
+writer_rests-like phases.WWait rest task = record { own = refl; kept = refl }
+writer_rests-like _ rest task = let saved = saved_for-like rest task in record { own = saved.own; kept = saved.kept }
 
 -- ---- kept tops
 

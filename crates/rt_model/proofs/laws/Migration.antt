@@ -2,9 +2,8 @@
 use Rattle.std.proofs.Common.{◌≡◌, ◌⊎◌, inl, inr, ℕ, ◌+◌, ◌-◌, ◌*◌, ◌<◌, ◌≤◌, Bool, true, false, cond, ◌&&◌, ◌||◌, get_or, length, refl, sym, ap, ◌∙◌, subst, arith, Option, Some, None, All, IfSome, unwrap_or}
 use Rattle.std.specs.Prelude.{slice_get, slice_set, nat_lt, option_map}
 use Rattle.std.proofs.lemmas.Bool.Decides.{nat_tests}
-use Rattle.std.proofs.lemmas.List.Folds.{fold-map}
-use Rattle.std.proofs.lemmas.List.Sums.{get_or-le-sum_by}
-use Rattle.std.proofs.lemmas.Option.{slice_get_within, unwrap_or-slice_get}
+use Rattle.std.proofs.lemmas.List.Sums.{get_or-le-sum_by, sum-map}
+use Rattle.std.proofs.lemmas.Option.{slice_get_within}
 use Rattle.rt_base.specs.declared.call.Call.{Call}
 use Rattle.rt_base.specs.declared.call.Call.TheVariants as calls
 use Rattle.rt_base.specs.declared.id.LockId.{LockId}
@@ -387,7 +386,7 @@ MigrationLaw-next s made t e lawful next u =
 
 -- ---- how far it goes
 
--- a thread that is at a call holds no lock for reading as often as a script may have calls
+-- a thread that is at a call has fewer read holds of a lock than a script may have calls
 pub few-reads : (s : State) (made : ℕ) (t : TaskId) (call : Call) → IsLawful s made → call_of (thread_part s t) ≡ Some call → (l : LockId) → (hold_of (thread_part s t) l).reads < MAX_CALLS
 few-reads s made t call lawful calling l =
     let thread = thread_part s t in
@@ -398,10 +397,10 @@ few-reads s made t call lawful calling l =
     few : All (λ (th : ThreadPart). length th.calls ≤ MAX_CALLS) s.threads
     few i d lt =
         let calls_at : ThreadPart → ℕ = λ th. length th.calls in
-        let one : length (get_or s.threads i d).calls ≤ calls_of s.threads = rw (fold-map ◌+◌ calls_at 0 s.threads) (get_or-le-sum_by calls_at s.threads i d lt) in
+        let one : length (get_or s.threads i d).calls ≤ calls_of s.threads = subst (λ (n : ℕ). calls_at (get_or s.threads i d) ≤ n) (sym (sum-map calls_at s.threads)) (get_or-le-sum_by calls_at s.threads i d lt) in
         omega (arith, one, lawful.shape.few_calls)
 
--- so its migration count is no more than for each lock one and so many
+-- so its migration count is at most so many for each lock, and one for a write hold
 pub few-pinned : (s : State) (made : ℕ) (t : TaskId) (call : Call) → IsLawful s made → call_of (thread_part s t) ≡ Some call → (thread_part s t).migration ≤ MAX_LOCKS * (MAX_CALLS + 1)
 few-pinned s made t call lawful calling =
     let there = (at_call s t call calling).1 in

@@ -38,7 +38,7 @@ use Rattle.rt_model.proofs.Lists.{if_some}
 use Rattle.rt_model.proofs.NextEvents.{IsNext, by_own, by_acquire, by_wait, by_release, by_reading, by_walk, by_confirm, by_wakeup, by_setprio, task-IsNext}
 use Rattle.rt_model.proofs.Owned.{changes_owner, owners-kept}
 use Rattle.rt_model.proofs.Reading.{is_idle, reading-idle, reading-was_idle, reading-left, reading-locks, reading-blocked}
-use Rattle.rt_model.proofs.events.Acquire.{AsksBy, from_start, from_reading, AcquiresIn, by_asking, by_trying, asking, is_fast, is_mark, is_take, is_busy}
+use Rattle.rt_model.proofs.events.Acquire.{from_start, from_reading, AcquiresIn, by_asking, by_trying, asking, is_fast, is_mark, is_take, is_busy}
 use Rattle.rt_model.proofs.events.Readers.{IsMade, IsReading, is_read, is_tryread, is_let_in, is_shut, is_tryshut, is_out, is_wwake, is_unbias, is_in, is_sleep, is_given_up, is_in_late, is_sleep_again, is_opened, is_downgraded}
 use Rattle.rt_model.proofs.events.Wait.{is_wait, is_again, is_leave}
 use Rattle.rt_model.proofs.events.Release.{is_free, is_give}

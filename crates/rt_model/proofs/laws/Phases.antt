@@ -1,5 +1,5 @@
 -- A next event keeps the phases law.
-use Rattle.std.proofs.Common.{◌≡◌, ℕ, ◌<◌, Bool, true, false, cond, List, [], length, refl, sym, subst, Option, Some, None}
+use Rattle.std.proofs.Common.{◌≡◌, ℕ, ◌<◌, Bool, true, false, List, [], length, refl, sym, subst, Option, Some, None}
 use Rattle.rt_base.specs.declared.call.Call.{Call}
 use Rattle.rt_base.specs.declared.call.Call.TheVariants as calls
 use Rattle.rt_base.specs.declared.id.LockId.{LockId}
@@ -12,30 +12,27 @@ use Rattle.rt_model.specs.declared.phase.Phase.TheVariants as phases
 use Rattle.rt_model.specs.declared.phase.Route.{Route}
 use Rattle.rt_model.specs.declared.phase.Route.TheVariants.{Full, Short}
 use Rattle.rt_model.specs.Parts.{TaskPart, ThreadPart, call_of}
-use Rattle.rt_model.specs.State.{State, shared, owner_part, reader_part, task_part, thread_part}
-use Rattle.rt_model.specs.Effect.{around}
-use Rattle.rt_model.specs.Rules.{touched}
-use Rattle.rt_model.specs.StateAfter.{shared_after, thread_after, state_after}
-use Rattle.rt_model.specs.Stage.{waits, writes, IsPhaseOf}
-use Rattle.rt_model.specs.events.Readers.{phase_after_rin, rout_event}
+use Rattle.rt_model.specs.State.{State, shared, owner_part, task_part, thread_part}
+use Rattle.rt_model.specs.StateAfter.{thread_after, state_after}
+use Rattle.rt_model.specs.Stage.{waits, writes, ends_with_release, IsPhaseOf}
 use Rattle.rt_model.specs.events.Wait.{phase_after_wait}
 use Rattle.rt_model.specs.steps.Chain.{followed, goes_on}
-use Rattle.rt_model.specs.steps.Readers.{wakes_writer, without_reader}
 use Rattle.rt_model.specs.steps.Task.{with_own}
-use Rattle.rt_model.specs.steps.Thread.{phase_after_got, got_answer, phase_after_busy, answered_with}
+use Rattle.rt_model.specs.steps.Thread.{phase_after_got, got_answer, answered_with}
 use Rattle.rt_model.specs.laws.Phases.{PhasesLaw}
 use Rattle.rt_model.specs.laws.Lawful.{IsLawful}
-use Rattle.rt_model.proofs.Calling.{Asks, asks-waits, Writes, writes-holds}
+use Rattle.rt_model.proofs.Calling.{Asks, asks-waits, ends-holds, writes-holds}
 use Rattle.rt_model.proofs.Calm.{wakeup-threads}
 use Rattle.rt_model.proofs.NextEvents.{IsNext, by_own, by_acquire, by_wait, by_release, by_reading, by_walk, by_confirm, by_wakeup, by_setprio}
 use Rattle.rt_model.proofs.events.Wait.{is_wait, is_again, is_leave}
 use Rattle.rt_model.proofs.events.Acquire.{is_fast, is_mark, is_take, is_busy, asking}
 use Rattle.rt_model.proofs.events.Release.{is_free, is_give}
-use Rattle.rt_model.proofs.events.Readers.{IsMade, IsReading, is_read, is_tryread, is_let_in, is_shut, is_tryshut, is_out, is_wwake, is_unbias, is_in, is_sleep, is_given_up, is_in_late, is_sleep_again, is_opened, is_downgraded, reading-in, reading-task}
+use Rattle.rt_model.proofs.events.Readers.{IsReading, reading-in, reading-task}
 use Rattle.rt_model.proofs.events.Walk.{is_walk, is_walkend, is_restart, is_cycle}
 use Rattle.rt_model.proofs.Leaves.{IsLeft, left_answer, left_made, left-is, left-there, left-fits, left-thread, leave-left, cycle-left}
 use Rattle.rt_model.proofs.Links.{walked_thread, link-thread, end-thread, setprio-thread}
 use Rattle.rt_model.proofs.PartsAfter.{thread-made}
+use Rattle.rt_model.proofs.Reading.{reading-leaves}
 use Rattle.rt_model.proofs.Routes.{walk-fits, setprio-fits, SameSort, SameSort-itself, SameSort-followed, walked-holds}
 
 abbrev Phased : ThreadPart → Type 0
@@ -63,44 +60,16 @@ got_phased thread _ at = tt
 
 -- what an event at a reader part leaves of its thread
 reading_phased : (s : State) (t : TaskId) (l : LockId) (e : Event) → PhasesLaw s → IsReading s t l e → Phased (thread_after (shared s) (thread_part s t) e)
-reading_phased s t l e law is = by_kind is
-  where
-    thread : ThreadPart
-    thread = thread_part s t
-
-    of : (phase : Phase) (call : Call) (x : Event) → IsMade s t l phase call x e → Phased (thread_after (shared s) thread x) → Phased (thread_after (shared s) thread e)
-    of phase call x is left = subst (λ (y : Event). Phased (thread_after (shared s) thread y)) (sym is.event) left
-
-    -- the phase that is left is one of the call, where it is so of the call as it is written
-    in_call : (onward : Option Call → Phase) (phase : Phase) (call : Call) (x : Event) → IsMade s t l phase call x e → IsPhaseOf (onward (Some call)) (Some call) → IsPhaseOf (onward (call_of thread)) (call_of thread)
-    in_call onward phase call x is fits = subst (λ (c : Option Call). IsPhaseOf (onward c) c) (sym is.at.calling) fits
-
-    out : IsMade s t l phases.Start (calls.Unread l) (rout_event t l (reader_part s l)) e → (left told : Bool) → Phased (answered_with (record thread { phase = cond left phases.WakeWriter thread.phase }) (cond told None (Some Done)))
-    out is true true = in_call (λ c. phases.WakeWriter) _ _ _ is refl
-    out is false true = law t
-    out is left false = tt
-
-    writing : (call : Call) → Writes call l → writes call ≡ true
-    writing call how = writes-holds (λ c. writes c ≡ true) call l how refl refl
-
-    by_kind : IsReading s t l e → Phased (thread_after (shared s) thread e)
-    by_kind (is_read is unheld can) = of _ _ _ is tt
-    by_kind (is_tryread is set) = of _ _ _ is tt
-    by_kind (is_let_in is) = of _ _ _ is (subst (λ (p : Phase). IsPhaseOf (phase_after_rin p) (call_of thread)) (sym is.at.phased) (in_call (λ c. phases.Release) _ _ _ is refl))
-    by_kind (is_shut is unheld cannot) = of _ _ _ is (in_call (λ c. phase_after_busy c thread.phase) _ _ _ is refl)
-    by_kind (is_tryshut is off) = of _ _ _ is tt
-    by_kind (is_out is held) =
-        let x = rout_event t l (reader_part s l) in
-        of _ _ _ is (out is (wakes_writer (around (shared_after (shared s) thread x) (touched x.kind x)).readers) (wakes_writer (without_reader (reader_part s l))))
-    by_kind (is_wwake is) = of _ _ _ is tt
-    by_kind (is_unbias call how is) = of _ _ _ is (in_call (λ c. phases.WTry) _ _ _ is (writing call how))
-    by_kind (is_in call how is can) = of _ _ _ is tt
-    by_kind (is_sleep is cannot) = of _ _ _ is (in_call (λ c. phases.WWait) _ _ _ is refl)
-    by_kind (is_given_up is cannot) = of _ _ _ is (in_call (λ c. phases.Release) _ _ _ is refl)
-    by_kind (is_in_late is runs can) = of _ _ _ is tt
-    by_kind (is_sleep_again is runs cannot) = of _ _ _ is (in_call (λ c. phases.WWait) _ _ _ is refl)
-    by_kind (is_opened is held) = of _ _ _ is (in_call (λ c. phases.Release) _ _ _ is refl)
-    by_kind (is_downgraded is held) = of _ _ _ is (in_call (λ c. phases.Release) _ _ _ is refl)
+reading_phased s t l e law is =
+    reading-leaves Phased s t l e is (record {
+      answered = λ phase answer. tt;
+      shut = λ at unheld. subst (IsPhaseOf phases.Inner) (sym at.calling) refl;
+      last = λ at. subst (IsPhaseOf phases.WakeWriter) (sym at) refl;
+      start = λ at. law t;
+      unbiased = λ call how at. subst (IsPhaseOf phases.WTry) (sym at) (writes-holds (λ c. writes c ≡ true) call l how refl refl);
+      asleep = λ at. subst (IsPhaseOf phases.WWait) (sym at) refl;
+      releases = λ call ends at. subst (IsPhaseOf phases.Release) (sym at) (ends-holds (λ c. ends_with_release c ≡ true) call l ends refl refl refl refl);
+    })
 
 -- ---- a walk that goes on, or ends
 

@@ -1,5 +1,5 @@
 -- A next event keeps the queued law.
-use Rattle.std.proofs.Common.{◌≡◌, ℕ, ◌<◌, Bool, true, false, cond, length, refl, sym, ap, ◌∙◌, subst, Option, Some, None, IfSome}
+use Rattle.std.proofs.Common.{◌≡◌, ℕ, ◌<◌, Bool, true, false, length, refl, sym, ap, ◌∙◌, subst, Option, Some, None, IfSome}
 use Rattle.std.specs.Prelude.{nat_eq, option_and_then}
 use Rattle.rt_base.specs.declared.call.Call.{Call}
 use Rattle.rt_base.specs.declared.call.Call.TheVariants as calls
@@ -15,16 +15,14 @@ use Rattle.rt_model.specs.declared.phase.Route.{Route}
 use Rattle.rt_model.specs.declared.phase.Route.TheVariants.{Short}
 use Rattle.rt_model.specs.Parts.{OwnerPart, TaskPart, ThreadPart, call_of}
 use Rattle.rt_model.specs.Choice.{called_lock, present_lock}
-use Rattle.rt_model.specs.State.{State, shared, owner_part, reader_part, task_part, thread_part}
+use Rattle.rt_model.specs.State.{State, shared, owner_part, task_part, thread_part}
 use Rattle.rt_model.specs.Effect.{Around, around}
 use Rattle.rt_model.specs.Rules.{touched, effect}
-use Rattle.rt_model.specs.StateAfter.{shared_after, thread_after, state_after}
-use Rattle.rt_model.specs.events.Readers.{phase_after_rin, rout_event}
+use Rattle.rt_model.specs.StateAfter.{thread_after, state_after}
 use Rattle.rt_model.specs.events.Wait.{phase_after_wait}
 use Rattle.rt_model.specs.steps.Chain.{followed, goes_on}
-use Rattle.rt_model.specs.steps.Readers.{wakes_writer, without_reader}
 use Rattle.rt_model.specs.steps.Task.{with_own}
-use Rattle.rt_model.specs.steps.Thread.{phase_after_got, got_answer, phase_after_busy, answered_with}
+use Rattle.rt_model.specs.steps.Thread.{phase_after_got, got_answer, answered_with}
 use Rattle.rt_model.specs.laws.Lawful.{IsLawful}
 use Rattle.rt_model.specs.laws.Owners.{owned_by}
 use Rattle.rt_model.specs.laws.Queued.{QueuedLaw, awaited_in, asked_in}
@@ -37,9 +35,9 @@ use Rattle.rt_model.proofs.Links.{walked_thread, requeued-owner, link-thread, en
 use Rattle.rt_model.proofs.Lists.{if_some}
 use Rattle.rt_model.proofs.NextEvents.{IsNext, by_own, by_acquire, by_wait, by_release, by_reading, by_walk, by_confirm, by_wakeup, by_setprio, task-IsNext}
 use Rattle.rt_model.proofs.Owned.{changes_owner, owners-kept}
-use Rattle.rt_model.proofs.Reading.{is_idle, reading-idle, reading-was_idle, reading-left, reading-locks, reading-blocked}
+use Rattle.rt_model.proofs.Reading.{is_idle, reading-leaves, reading-idle, reading-was_idle, reading-left, reading-locks, reading-blocked}
 use Rattle.rt_model.proofs.events.Acquire.{from_start, from_reading, AcquiresIn, by_asking, by_trying, asking, is_fast, is_mark, is_take, is_busy}
-use Rattle.rt_model.proofs.events.Readers.{IsMade, IsReading, is_read, is_tryread, is_let_in, is_shut, is_tryshut, is_out, is_wwake, is_unbias, is_in, is_sleep, is_given_up, is_in_late, is_sleep_again, is_opened, is_downgraded}
+use Rattle.rt_model.proofs.events.Readers.{IsReading}
 use Rattle.rt_model.proofs.events.Wait.{is_wait, is_again, is_leave}
 use Rattle.rt_model.proofs.events.Release.{is_free, is_give}
 use Rattle.rt_model.proofs.events.Walk.{is_walk, is_walkend, is_restart, is_cycle}
@@ -204,43 +202,17 @@ idle_awaits _ lock is = refl
 -- only a reader that finds a writer in asks for a lock then, which it doesn't own
 reading_asks : (s : State) (made : ℕ) (t : TaskId) (l : LockId) (e : Event) → IsLawful s made → IsReading s t l e
     → IfSome (asked_in (thread_after (shared s) (thread_part s t) e).phase (present_lock (thread_after (shared s) (thread_part s t) e))) (Free s t)
-reading_asks s made t l e lawful is = by_kind is
-  where
-    thread : ThreadPart
-    thread = thread_part s t
-
-    Asking : ThreadPart → Type 0
-    Asking th = IfSome (asked_in th.phase (present_lock th)) (Free s t)
-
-    of : (phase : Phase) (call : Call) (x : Event) → IsMade s t l phase call x e → Asking (thread_after (shared s) thread x) → Asking (thread_after (shared s) thread e)
-    of phase call x is left = subst (λ (y : Event). Asking (thread_after (shared s) thread y)) (sym is.event) left
-
-    out : thread.phase ≡ phases.Start → (left told : Bool) → Asking (answered_with (record thread { phase = cond left phases.WakeWriter thread.phase }) (cond told None (Some Done)))
-    out start true true = tt
-    out start false true = subst (λ (p : Phase). IfSome (asked_in p (present_lock thread)) (Free s t)) (sym start) tt
-    out start left false = tt
-
-    by_kind : IsReading s t l e → Asking (thread_after (shared s) thread e)
-    by_kind (is_read is unheld can) = of _ _ _ is tt
-    by_kind (is_tryread is set) = of _ _ _ is tt
-    by_kind (is_let_in is) = of _ _ _ is (subst (λ (p : Phase). IfSome (asked_in (phase_after_rin p) (present_lock thread)) (Free s t)) (sym is.at.phased) tt)
-    by_kind (is_shut is unheld cannot) =
-        of _ _ _ is
-        (subst (λ (c : Option Call). IfSome (asked_in (phase_after_busy c thread.phase) (option_and_then (called_lock thread.cpu) c)) (Free s t)) (sym is.at.calling)
-        (sym (outside-owned s t l lawful.owners phases.Start (calls.Read l) is.at refl) ∙ unheld))
-    by_kind (is_tryshut is off) = of _ _ _ is tt
-    by_kind (is_out is held) =
-        let x = rout_event t l (reader_part s l) in
-        of _ _ _ is (out is.at.phased (wakes_writer (around (shared_after (shared s) thread x) (touched x.kind x)).readers) (wakes_writer (without_reader (reader_part s l))))
-    by_kind (is_wwake is) = of _ _ _ is tt
-    by_kind (is_unbias call how is) = of _ _ _ is tt
-    by_kind (is_in call how is can) = of _ _ _ is tt
-    by_kind (is_sleep is cannot) = of _ _ _ is tt
-    by_kind (is_given_up is cannot) = of _ _ _ is tt
-    by_kind (is_in_late is runs can) = of _ _ _ is tt
-    by_kind (is_sleep_again is runs cannot) = of _ _ _ is tt
-    by_kind (is_opened is held) = of _ _ _ is tt
-    by_kind (is_downgraded is held) = of _ _ _ is tt
+reading_asks s made t l e lawful is =
+    let thread = thread_part s t in
+    reading-leaves (λ th. IfSome (asked_in th.phase (present_lock th)) (Free s t)) s t l e is (record {
+      answered = λ phase answer. tt;
+      shut = λ at unheld. subst (λ (c : Option Call). IfSome (option_and_then (called_lock thread.cpu) c) (Free s t)) (sym at.calling) (sym (outside-owned s t l lawful.owners phases.Start (calls.Read l) at refl) ∙ unheld);
+      last = λ at. tt;
+      start = λ at. subst (λ (p : Phase). IfSome (asked_in p (present_lock thread)) (Free s t)) (sym at) tt;
+      unbiased = λ call how at. tt;
+      asleep = λ at. tt;
+      releases = λ call ends at. tt;
+    })
 
 queued_reading : (s : State) (made : ℕ) (t : TaskId) (l : LockId) (e : Event) → IsLawful s made → IsReading s t l e → IsQueuedAt (state_after s e) t
 queued_reading s made t l e lawful is =

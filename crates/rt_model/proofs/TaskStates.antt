@@ -1,4 +1,4 @@
--- What an event keeps of a task's state and of what is saved.
+-- What an event keeps of a task's state and of what is saved, and which threads sleep for readers.
 use Rattle.std.proofs.Common.{◌≡◌, ◌≢◌, ◌⊎◌, inl, inr, ℕ, zero, suc, ◌<◌, Bool, true, false, cond, ◌&&◌, ◌||◌, List, length, refl, sym, ap, ◌∙◌, subst, Option, Some, None, unwrap_or}
 use Rattle.std.specs.Prelude.{is_some, nat_eq, slice_get}
 use Rattle.std.proofs.lemmas.Bool.{cond_both}
@@ -39,17 +39,17 @@ use Rattle.rt_model.specs.laws.Lawful.{IsLawful}
 use Rattle.rt_model.specs.laws.Queued.{awaited_in}
 use Rattle.rt_model.specs.laws.Shape.{IsShaped}
 use Rattle.rt_model.specs.laws.States.{has_slept, spins_at, sleeps_spinning, waits_spinning, IsRested}
-use Rattle.rt_model.proofs.Calling.{IsIn, ReturnsBy, from_hold, from_inside}
+use Rattle.rt_model.proofs.Calling.{ReturnsBy, from_hold, from_inside}
 use Rattle.rt_model.proofs.CellStepLemmas.{where_changed}
 use Rattle.rt_model.proofs.Lists.{All-default}
 use Rattle.rt_model.proofs.Named.{within}
 use Rattle.rt_model.proofs.NextEvents.{IsNext, by_own, by_acquire, by_wait, by_release, by_reading, by_walk, by_confirm, by_wakeup, by_setprio, task-IsNext}
-use Rattle.rt_model.proofs.PartsAfter.{OthersKeep, thread-own}
+use Rattle.rt_model.proofs.PartsAfter.{OthersKeep, changes_readers, thread-own}
 use Rattle.rt_model.proofs.Reading.{is_idle, reading-was_idle}
 use Rattle.rt_model.proofs.Routes.{goes_on-holds}
 use Rattle.rt_model.proofs.Waiters.{blocking, idle-blocked, walk-phase}
 use Rattle.rt_model.proofs.events.Acquire.{AsksBy, from_start, from_reading, AcquiresIn, by_asking, by_trying, TakesIn, from_slow, from_wait, from_trying, is_fast, is_mark, is_take, is_busy}
-use Rattle.rt_model.proofs.events.Readers.{IsReading, IsReadingIn, reading-in}
+use Rattle.rt_model.proofs.events.Readers.{IsReading, reading-in}
 use Rattle.rt_model.proofs.events.Release.{is_free, is_give}
 use Rattle.rt_model.proofs.events.Wait.{is_wait, is_again, is_leave}
 use Rattle.rt_model.proofs.events.Walk.{is_walk, is_walkend, is_restart, is_cycle}
@@ -262,8 +262,8 @@ queued_waits thread task awake =
     or_false false = refl
 
 -- and who sleeps for the readers of a lock waits for a spinning kind where that is of one
-pub sleeper_waits : (thread : ThreadPart) (task : TaskPart) (l : LockId) → thread.phase ≡ phases.WWait → present_lock thread ≡ Some l → task.blocked ≡ None → waits_spinning thread task ≡ spins (kind_of thread l)
-sleeper_waits thread task l phased present unblocked = λ i. spins_at thread (unblocked i) || (has_slept (phased i) && spins (kind_named thread (present i)))
+pub sleeper_waits : (thread : ThreadPart) (task : TaskPart) (l : LockId) → has_slept thread.phase ≡ true → present_lock thread ≡ Some l → task.blocked ≡ None → waits_spinning thread task ≡ spins (kind_of thread l)
+sleeper_waits thread task l slept present unblocked = λ i. spins_at thread (unblocked i) || (slept i && spins (kind_named thread (present i)))
 
 -- so it is the same where these stay
 pub still_waits : (thread after : ThreadPart) (blocked left : Option (LockId × ℕ)) → after.kinds ≡ thread.kinds → blocking left ≡ blocking blocked → spins_at after left ≡ spins_at thread blocked
@@ -278,14 +278,18 @@ same_waits thread after task left kept same =
 pub waits_there : (thread other : ThreadPart) (blocked : Option (LockId × ℕ)) (l : LockId) → thread.kinds ≡ other.kinds → blocking blocked ≡ Some l → spins_at thread blocked ≡ spins (kind_of other l)
 waits_there thread other blocked l known is = spins_told thread blocked ∙ (λ i. spins_among (known i) (is i))
 
--- all threads know the same kinds, so any of them tells it of a task that is blocked on the lock and doesn't sleep for readers
-pub waits_as : (s : State) (u v : TaskId) (l : LockId) → IsShaped s → u.0 < length s.threads → v.0 < length s.threads → blocking (task_part s u).blocked ≡ Some l → has_slept (thread_part s u).phase ≡ false
-    → waits_spinning (thread_part s u) (task_part s u) ≡ spins (kind_of (thread_part s v) l)
-waits_as s u v l shaped here there is awake =
-    queued_waits (thread_part s u) (task_part s u) awake ∙ waits_there (thread_part s u) (thread_part s v) (task_part s u).blocked l (known u here ∙ sym (known v there)) is
+-- all threads know the same kinds
+pub alike-kinds : (s : State) (u v : TaskId) → IsShaped s → u.0 < length s.threads → v.0 < length s.threads → (thread_part s u).kinds ≡ (thread_part s v).kinds
+alike-kinds s u v shaped here there = known u here ∙ sym (known v there)
   where
     known : (w : TaskId) → w.0 < length s.threads → (thread_part s w).kinds ≡ shaped.known
     known w lt = All-default (λ (thread : ThreadPart). thread.kinds ≡ shaped.known) s.threads w.0 _ shaped.alike lt
+
+-- so any of them tells it of a task that is blocked on the lock and doesn't sleep for readers
+pub waits_as : (s : State) (u v : TaskId) (l : LockId) → IsShaped s → u.0 < length s.threads → v.0 < length s.threads → blocking (task_part s u).blocked ≡ Some l → has_slept (thread_part s u).phase ≡ false
+    → waits_spinning (thread_part s u) (task_part s u) ≡ spins (kind_of (thread_part s v) l)
+waits_as s u v l shaped here there is awake =
+    queued_waits (thread_part s u) (task_part s u) awake ∙ waits_there (thread_part s u) (thread_part s v) (task_part s u).blocked l (alike-kinds s u v shaped here there) is
 
 -- ---- which threads sleep for readers
 
@@ -366,8 +370,51 @@ pub record IsUp (s : State) (t : TaskId) (e : Event) : Type 0 where
   pub before : has_slept (thread_part s t).phase ≡ false
   pub after : has_slept (thread_part (state_after s e) t).phase ≡ false
 
+-- ---- events at reader parts, and all others
+
+-- the event of a thread in this phase is one at a reader part, or wakes a writer
+abbrev pub at_readers : Phase → Bool
+at_readers phases.ReadIn = true
+at_readers phases.Unbias = true
+at_readers phases.WTry = true
+at_readers phases.WWait = true
+at_readers phases.WakeWriter = true
+at_readers _ = false
+
+-- and one of this kind is
+abbrev pub of_readers : EventKind → Bool
+of_readers kinds.RIn = true
+of_readers kinds.ROut = true
+of_readers kinds.Unbias = true
+of_readers kinds.WTake = true
+of_readers kinds.WSleep = true
+of_readers kinds.WOpen = true
+of_readers kinds.WWake = true
+of_readers _ = false
+
+-- an event of a thread in no such phase, that is of no such kind
+pub record IsElse (s : State) (t : TaskId) (e : Event) : Type 0 where
+  pub phase : at_readers (thread_part s t).phase ≡ false
+  pub kind : of_readers e.kind ≡ false
+
+else-awake : (phase : Phase) → at_readers phase ≡ false → has_slept phase ≡ false
+else-awake phases.WWait is = cc
+else-awake _ is = refl
+
+else-stays : (kind : EventKind) → of_readers kind ≡ false → falls_asleep kind ≡ false
+else-stays kinds.WSleep is = cc
+else-stays _ is = refl
+
+pub else-kept : (kind : EventKind) → of_readers kind ≡ false → changes_readers kind ≡ false
+else-kept kinds.RIn is = cc
+else-kept kinds.ROut is = cc
+else-kept kinds.Unbias is = cc
+else-kept kinds.WTake is = cc
+else-kept kinds.WOpen is = cc
+else-kept _ is = refl
+
 module _ (s : State) (made : ℕ) (t : TaskId) (e : Event) (lawful : IsLawful s made) (next : IsNext s t e) where
-  -- so one that is of no such kind, of a task that doesn't
+  -- a task that doesn't sleep for readers does so after no event of another kind
   pub up-as : (x : Event) → e ≡ x → falls_asleep x.kind ≡ false → has_slept (thread_part s t).phase ≡ false → IsUp s t e
   up-as x is stays up =
       let own : e.task ≡ t = task-IsNext s t e next in
@@ -375,51 +422,54 @@ module _ (s : State) (made : ℕ) (t : TaskId) (e : Event) (lawful : IsLawful s 
       let after = stays-up s e (within s made t e lawful next).task (ap (λ (y : Event). falls_asleep y.kind) is ∙ stays) before in
       record { before = up; after = subst (λ (v : TaskId). has_slept (thread_part (state_after s e) v).phase ≡ false) own after }
 
-  up-in : (phase : Phase) (call : Call) → IsIn s t phase call → has_slept phase ≡ false → has_slept (thread_part s t).phase ≡ false
-  up-in phase call at up = ap has_slept at.phased ∙ up
+  pub else-up : IsElse s t e → IsUp s t e
+  else-up is = up-as e refl (else-stays e.kind is.kind) (else-awake (thread_part s t).phase is.phase)
 
-  up-asks : (l : LockId) → AsksBy s t l → has_slept (thread_part s t).phase ≡ false
-  up-asks l (from_start asks unheld) = up-in _ _ asks.at refl
-  up-asks l (from_reading asks) = up-in _ _ asks.at refl
+  other : (x : Event) (phase : Phase) → e ≡ x → of_readers x.kind ≡ false → (thread_part s t).phase ≡ phase → at_readers phase ≡ false → IsElse s t e
+  other x phase is kind at before = record { phase = ap at_readers at ∙ before; kind = ap (λ (y : Event). of_readers y.kind) is ∙ kind }
 
-  up-acquires : (l : LockId) → AcquiresIn s t l → has_slept (thread_part s t).phase ≡ false
-  up-acquires l (by_asking asks) = up-asks l asks
-  up-acquires l (by_trying tries) = up-in _ _ tries.at refl
+  else-asks : (x : Event) (l : LockId) → e ≡ x → of_readers x.kind ≡ false → AsksBy s t l → IsElse s t e
+  else-asks x l is kind (from_start asks unheld) = other x _ is kind asks.at.phased refl
+  else-asks x l is kind (from_reading asks) = other x _ is kind asks.at.phased refl
 
-  up-takes : (l : LockId) → TakesIn s t l → has_slept (thread_part s t).phase ≡ false
-  up-takes l (from_slow asks) = up-in _ _ asks.at refl
-  up-takes l (from_wait asks awake) = up-in _ _ asks.at refl
-  up-takes l (from_trying tries) = up-in _ _ tries.at refl
+  else-acquires : (x : Event) (l : LockId) → e ≡ x → of_readers x.kind ≡ false → AcquiresIn s t l → IsElse s t e
+  else-acquires x l is kind (by_asking asks) = else-asks x l is kind asks
+  else-acquires x l is kind (by_trying tries) = other x _ is kind tries.at.phased refl
 
-  up-returns : (l : LockId) (call : Call) → ReturnsBy s t l call → has_slept (thread_part s t).phase ≡ false
-  up-returns l call (from_hold releases at held) = up-in _ _ at refl
-  up-returns l call (from_inside ends at) = up-in _ _ at refl
+  else-takes : (x : Event) (l : LockId) → e ≡ x → of_readers x.kind ≡ false → TakesIn s t l → IsElse s t e
+  else-takes x l is kind (from_slow asks) = other x _ is kind asks.at.phased refl
+  else-takes x l is kind (from_wait asks awake) = other x _ is kind asks.at.phased refl
+  else-takes x l is kind (from_trying tries) = other x _ is kind tries.at.phased refl
 
-  -- and each but those at reader parts
-  pub up-next : IsUp s t e ⊎ ((l : LockId) × IsReading s t l e)
-  up-next = by_kind next
+  else-returns : (x : Event) (l : LockId) (call : Call) → e ≡ x → of_readers x.kind ≡ false → ReturnsBy s t l call → IsElse s t e
+  else-returns x l call is kind (from_hold releases at held) = other x _ is kind at.phased refl
+  else-returns x l call is kind (from_inside ends at) = other x _ is kind at.phased refl
+
+  -- each event but those at reader parts is such a one
+  pub else-or-reading : IsElse s t e ⊎ ((l : LockId) × IsReading s t l e)
+  else-or-reading = by_kind next
     where
-      by_kind : IsNext s t e → IsUp s t e ⊎ ((l : LockId) × IsReading s t l e)
-      by_kind (by_own call answer is) = inl (up-as _ is.event refl (up-in _ _ is.at refl))
-      by_kind (by_acquire l (is_fast is)) = inl (up-as _ is.event refl (up-acquires l is.how))
-      by_kind (by_acquire l (is_mark is)) = inl (up-as _ is.event refl (up-asks l is.how))
-      by_kind (by_acquire l (is_take is)) = inl (up-as _ is.event refl (up-takes l is.how))
-      by_kind (by_acquire l (is_busy is)) = inl (up-as _ is.event refl (up-in _ _ is.at.at refl))
-      by_kind (by_wait l (is_wait is)) = inl (up-as _ is.event refl (up-in _ _ is.at.at refl))
-      by_kind (by_wait l (is_again is)) = inl (up-as _ is.event refl (up-in _ _ is.at.at refl))
-      by_kind (by_wait l (is_leave is)) = inl (up-as _ is.event refl (up-in _ _ is.at refl))
-      by_kind (by_release l (is_free is)) = inl (up-as _ is.event refl (up-returns l is.at.call is.at.by))
-      by_kind (by_release l (is_give is)) = inl (up-as _ is.event refl (up-returns l is.at.call is.at.by))
+      by_kind : IsNext s t e → IsElse s t e ⊎ ((l : LockId) × IsReading s t l e)
+      by_kind (by_own call answer is) = inl (other _ _ is.event refl is.at.phased refl)
+      by_kind (by_acquire l (is_fast is)) = inl (else-acquires _ l is.event refl is.how)
+      by_kind (by_acquire l (is_mark is)) = inl (else-asks _ l is.event refl is.how)
+      by_kind (by_acquire l (is_take is)) = inl (else-takes _ l is.event refl is.how)
+      by_kind (by_acquire l (is_busy is)) = inl (other _ _ is.event refl is.at.at.phased refl)
+      by_kind (by_wait l (is_wait is)) = inl (other _ _ is.event refl is.at.at.phased refl)
+      by_kind (by_wait l (is_again is)) = inl (other _ _ is.event refl is.at.at.phased refl)
+      by_kind (by_wait l (is_leave is)) = inl (other _ _ is.event refl is.at.phased refl)
+      by_kind (by_release l (is_free is)) = inl (else-returns _ l is.at.call is.event refl is.at.by)
+      by_kind (by_release l (is_give is)) = inl (else-returns _ l is.at.call is.event refl is.at.by)
       by_kind (by_reading l is) = inr (l, is)
-      by_kind (by_walk route u (is_walk l key is)) = inl (up-as _ is.event refl (ap has_slept (walk-phase s t route u is.how)))
-      by_kind (by_walk route u (is_walkend is)) = inl (up-as _ is.event refl (ap has_slept (walk-phase s t route u is.how)))
-      by_kind (by_confirm l path (is_restart link is)) = inl (up-as _ is.event refl (up-in _ _ is.at.at refl))
-      by_kind (by_confirm l path (is_cycle is)) = inl (up-as _ is.event refl (up-in _ _ is.at.at refl))
-      by_kind (by_wakeup (is_state state is)) = inl (up-as _ is.event refl (up-in _ _ is.at refl))
-      by_kind (by_wakeup (is_sched is)) = inl (up-as _ is.event refl (up-in _ _ is.at refl))
-      by_kind (by_wakeup (is_wake u is)) = inl (up-as _ is.event refl (up-in _ _ is.at refl))
-      by_kind (by_wakeup (is_signal u is)) = inl (up-as _ is.event refl (up-in _ _ is.at refl))
-      by_kind (by_setprio u prio is) = inl (up-as _ is.event refl (up-in _ _ is.at refl))
+      by_kind (by_walk route u (is_walk l key is)) = inl (other _ _ is.event refl (walk-phase s t route u is.how) refl)
+      by_kind (by_walk route u (is_walkend is)) = inl (other _ _ is.event refl (walk-phase s t route u is.how) refl)
+      by_kind (by_confirm l path (is_restart link is)) = inl (other _ _ is.event refl is.at.at.phased refl)
+      by_kind (by_confirm l path (is_cycle is)) = inl (other _ _ is.event refl is.at.at.phased refl)
+      by_kind (by_wakeup (is_state state is)) = inl (other _ _ is.event refl is.at.phased refl)
+      by_kind (by_wakeup (is_sched is)) = inl (other _ _ is.event refl is.at.phased refl)
+      by_kind (by_wakeup (is_wake u is)) = inl (other _ _ is.event refl is.at.phased refl)
+      by_kind (by_wakeup (is_signal u is)) = inl (other _ _ is.event refl is.at.phased refl)
+      by_kind (by_setprio u prio is) = inl (other _ _ is.event refl is.at.phased refl)
 
 -- ---- a task whose event is at a reader part
 

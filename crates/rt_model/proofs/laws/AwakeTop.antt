@@ -131,7 +131,7 @@ module _ (s : State) (made : ℕ) (t : TaskId) (e : Event) (lawful : IsLawful s 
       (others_awake l (λ row none top. not_top t (kind_of (thread_part s t) l) (owner_part s l) (task_part s t) row is.cannot none top)) (λ there. unqueued_awake m (wait-elsewhere s made t lawful l m is.at there))
 
   -- a task that an event x wakes, by the kind for which it waits, runs afterwards, whatever else becomes of it
-  woken-runs : (x : Event) (v : TaskId) (spinning : Bool) → e ≡ x → can_sleep x.kind ≡ false → SlotsThere (touched x.kind x) (length s.tasks) → (touched x.kind x).woken ≡ Some v
+  pub woken-runs : (x : Event) (v : TaskId) (spinning : Bool) → e ≡ x → can_sleep x.kind ≡ false → SlotsThere (touched x.kind x) (length s.tasks) → (touched x.kind x).woken ≡ Some v
       → ((lock : OwnerPart) (task : TaskPart) → (effect_in (shared s) (thread_part s x.task) x).woken lock task ≡ lock_woken spinning task) → waits_spinning (thread_part s v) (task_part s v) ≡ spinning
       → HasStates IsRunning (task_part (state_after s e) v)
   woken-runs x v spinning is awake there named wakes waits =

@@ -1,5 +1,5 @@
 -- A next event keeps the states law.
-use Rattle.std.proofs.Common.{◌≡◌, ◌⊎◌, inl, inr, ℕ, ◌<◌, Bool, true, false, ◌&&◌, ◌||◌, refl, sym, ap, ◌∙◌, subst, Option, Some, None, IfSome, length}
+use Rattle.std.proofs.Common.{◌≡◌, ◌⊎◌, inl, inr, ℕ, ◌<◌, Bool, false, ◌&&◌, ◌||◌, refl, sym, ap, ◌∙◌, subst, Option, Some, None, IfSome, length}
 use Rattle.std.specs.Prelude.{is_some, nat_eq}
 use Rattle.rt_base.specs.Kind.{spins}
 use Rattle.rt_base.specs.declared.id.LockId.{LockId}
@@ -34,7 +34,7 @@ use Rattle.rt_model.proofs.Leaves.{IsLeft, by_leave, by_cycle, leave-left, cycle
 use Rattle.rt_model.proofs.Numbers.{other_number, at_each_task}
 use Rattle.rt_model.proofs.PartsAfter.{task-keeps, other-keeps, own-made, thread-made, thread-own, thread-other, thread-phase}
 use Rattle.rt_model.proofs.Reading.{reading-blocked}
-use Rattle.rt_model.proofs.TaskStates.{HasStates, can_sleep, AreRested, rested-states, states-rested, rested-own, rested-others, rested-blocked, rested-again, writer-rested, rested-restored, rested-left, rested-set, queued_waits, sleeper_waits, still_waits, same_waits, waits_there, falls_asleep, IsUp, up-as, up-next, reading-unblocked}
+use Rattle.rt_model.proofs.TaskStates.{HasStates, can_sleep, AreRested, rested-states, states-rested, rested-own, rested-others, rested-blocked, rested-again, writer-rested, rested-restored, rested-left, rested-set, queued_waits, sleeper_waits, still_waits, same_waits, waits_there, falls_asleep, IsUp, IsElse, up-as, else-up, else-or-reading, reading-unblocked}
 use Rattle.rt_model.proofs.Waiters.{blocking, asks-awaited, start-blocked, slow-blocked}
 use Rattle.rt_model.proofs.Within.{task_room}
 
@@ -275,10 +275,10 @@ module _ (s : State) (made : ℕ) (t : TaskId) (e : Event) (lawful : IsLawful s 
   own-else (by_setprio u prio is) = own-kept _ is.event refl refl
 
   own-rests : Rests t
-  own-rests = either (up-next s made t e lawful next)
+  own-rests = either (else-or-reading s made t e lawful next)
     where
-      either : IsUp s t e ⊎ ((l : LockId) × IsReading s t l e) → Rests t
-      either (inl up) = own-else next up
+      either : IsElse s t e ⊎ ((l : LockId) × IsReading s t l e) → Rests t
+      either (inl is) = own-else next (else-up s made t e lawful next is)
       either (inr (l, is)) = own-reads l is
 
 -- states law

@@ -1,13 +1,12 @@
 -- What the steps on a task make of its two fields in the flat wakeup machine.
-use Rattle.std.proofs.Common.{List, ◌≡◌, ◌≢◌, ◌⊎◌, inl, inr, ℕ, zero, suc, Bool, true, false, cond, not, ◌||◌, ◌&&◌, refl, sym, ap, ◌∙◌, subst, Option, Some, None}
+use Rattle.std.proofs.Common.{List, ◌≡◌, ◌≢◌, ◌⊎◌, inl, inr, ℕ, zero, suc, Bool, true, false, cond, not, ◌&&◌, refl, sym, ap, ◌∙◌, Option, Some, None}
 use Rattle.std.specs.Prelude.{is_some, nat_eq}
 use Rattle.std.proofs.lemmas.Bool.{cond-true, cond-false}
-use Rattle.rt_base.specs.Script.{Script, lock_line}
+use Rattle.rt_base.specs.Script.{Script}
 use Rattle.rt_base.specs.declared.call.Call.{Call}
 use Rattle.rt_base.specs.declared.call.Call.TheVariants as calls
 use Rattle.rt_base.specs.declared.id.LockId.{LockId}
 use Rattle.rt_base.specs.declared.id.TaskId.{TaskId}
-use Rattle.rt_base.specs.declared.reply.Reply.TheVariants.{Woke, Missed}
 use Rattle.rt_base.specs.declared.state.TaskState.{TaskState}
 use Rattle.rt_base.specs.declared.state.TaskState.TheVariants as states
 use Rattle.rt_model.specs.declared.event.Event.{Event}
@@ -16,7 +15,7 @@ use Rattle.rt_model.specs.declared.event_kind.EventKind.TheVariants as kinds
 use Rattle.rt_model.specs.declared.row.Row.{Row}
 use Rattle.rt_model.specs.Parts.{OwnerPart, TaskPart, ThreadPart}
 use Rattle.rt_model.specs.Rows.{top_key}
-use Rattle.rt_model.specs.steps.Task.{with_own, with_top, sleep_of, saved_for, put_to_rest, put_back, restored, leave_queue, sleeps, woken_up, is_interruptible, signalled, woken_by, wake_answer, signal_answer, lock_woken}
+use Rattle.rt_model.specs.steps.Task.{with_own, with_top, sleep_of, saved_for, put_to_rest, put_back, restored, leave_queue, sleeps, woken_up, signalled, woken_by, wake_answer, signal_answer, lock_woken}
 use Rattle.rt_model.specs.steps.Chain.{rekeyed, refreshed_where_changed}
 use Rattle.rt_model.specs.Effect.{Around}
 use Rattle.rt_model.specs.Rules.{effect}

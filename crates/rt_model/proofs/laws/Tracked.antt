@@ -1,5 +1,5 @@
 -- What a next event makes of what is seen of a task, and of its two fields, is what the flat wakeup machine makes of them.
-use Rattle.std.proofs.Common.{◌≡◌, ◌≢◌, ℕ, zero, suc, ◌<◌, Bool, true, false, cond, not, ◌||◌, List, [], ◌∷◌, length, map, refl, sym, ap, ◌∙◌, subst, Option, Some, None, IfSome, unwrap_or}
+use Rattle.std.proofs.Common.{◌≡◌, ◌≢◌, ℕ, zero, suc, ◌<◌, Bool, true, false, cond, not, ◌||◌, List, [], ◌∷◌, length, map, refl, sym, ap, ◌∙◌, subst, Option, Some, None, unwrap_or}
 use Rattle.std.specs.Prelude.{is_some, nat_eq, slice_get}
 use Rattle.std.proofs.lemmas.Bool.{cond-true, cond-false, cond_both, or_from, or_left, or_right}
 use Rattle.rt_base.specs.Kind.{spins}
@@ -21,7 +21,7 @@ use Rattle.rt_model.specs.declared.phase.Phase.{Phase}
 use Rattle.rt_model.specs.declared.phase.Phase.TheVariants as phases
 use Rattle.rt_model.specs.declared.phase.Route.{Route}
 use Rattle.rt_model.specs.declared.phase.Route.TheVariants.{Full, Short}
-use Rattle.rt_model.specs.Choice.{bare, called_lock, present_lock}
+use Rattle.rt_model.specs.Choice.{bare, called_lock}
 use Rattle.rt_model.specs.Parts.{OwnerPart, TaskPart, ThreadPart, call_of, kind_of, kind_named}
 use Rattle.rt_model.specs.Path.{first_owner}
 use Rattle.rt_model.specs.Rows.{top_key}
@@ -56,7 +56,7 @@ use Rattle.rt_model.proofs.NextEvents.{IsNext, by_own, by_acquire, by_wait, by_r
 use Rattle.rt_model.proofs.Numbers.{number_itself, other_number, at_each_task}
 use Rattle.rt_model.proofs.PartsAfter.{SlotsThere, task-keeps, other-keeps, own-made, other-made, slots-made, thread-own, thread-other, thread-phase}
 use Rattle.rt_model.proofs.Routes.{goes_on-holds}
-use Rattle.rt_model.proofs.TaskStates.{queued_waits, waits_as}
+use Rattle.rt_model.proofs.TaskStates.{queued_waits, waits_as, rested-states, rested-set}
 use Rattle.rt_model.proofs.Waiters.{blocking, asks-awaited, idle-blocked, start-blocked, slow-blocked, queued-awake, walk-phase}
 use Rattle.rt_model.proofs.Within.{task_room, owner_within, rows_within}
 use Rattle.rt_model.proofs.events.Acquire.{AsksBy, from_start, from_reading, AcquiresIn, by_asking, by_trying, IsTake, TakesIn, from_slow, from_wait, from_trying, is_fast, is_mark, is_take, is_busy}
@@ -223,11 +223,6 @@ up-after s e lt kind up =
 -- a wakeup or a signal
 abbrev pub targeted : TaskId → TaskId → ℕ → Option Reply → Event
 targeted t u n reply = record (bare t kinds.Wake) { other = Some u; value = n; reply = reply }
-
--- a state that a task sets by its number is no lock-wait state
-set_state : (n : ℕ) → state_numbered n ≢ states.LockWait
-set_state n = cond_both (nat_eq n 0) states.Running (cond (nat_eq n 1) states.Interruptible states.Uninterruptible) (λ (state : TaskState). state ≢ states.LockWait) (λ is same. cc)
-    (λ is. cond_both (nat_eq n 1) states.Interruptible states.Uninterruptible (λ (state : TaskState). state ≢ states.LockWait) (λ one same. cc) (λ two same. cc))
 
 data Changes (s : State) (t : TaskId) (e : Event) : Type 0 where
   nothing : sets_own e.kind ≡ false → wakes_other e.kind ≡ false → e.woken ≡ None → Changes s t e
@@ -605,12 +600,13 @@ module _ (script : Script) (s : State) (made : ℕ) (e : Event) (lawful : IsLawf
       (takes-fit l is.how ∙ sym (flat-kept task _ (with_top-keeps task (Some l) (top_key (taken_by e.task (owner_part s l)).rows) task (KeepsStates-itself task))))
 
   -- its task isn't blocked, and this becomes its state
-  fits_state : (x : Event) (state : TaskState) (call : Call) → e ≡ x → wakes_other x.kind ≡ false → x.woken ≡ None → (touched x.kind x).own ≡ Some e.task → IsIn s e.task phases.Start call → state ≢ states.LockWait
+  fits_state : (x : Event) (state : TaskState) (call : Call) → e ≡ x → wakes_other x.kind ≡ false → x.woken ≡ None → (touched x.kind x).own ≡ Some e.task → IsIn s e.task phases.Start call → (IsRested false own_task → state ≢ states.LockWait)
       → own_made x ≡ record (before e.task) { state = state }
       → ((lock : OwnerPart) (task : TaskPart) → (effect_in (shared s) (thread_part s x.task) x).own lock task ≡ record task { state = state }) → (u : TaskId) → Fits u
   fits_state x state call is others none named at ne same becomes =
+      let rested = free (start-blocked s made e.task lawful call at) (ap has_slept at.phased) in
       fits_slot x is others none named
-      (same ∙ (sym (set-fields state own_task ne (free (start-blocked s made e.task lawful call at) (ap has_slept at.phased)))
+      (same ∙ (sym (set-fields state own_task (ne rested) rested)
       ∙ ap flat_at (sym (becomes (lock_left (shared s) (thread_part s x.task) x) own_task))))
 
   -- a writer that gets in at once touches no task
@@ -626,8 +622,9 @@ module _ (script : Script) (s : State) (made : ℕ) (e : Event) (lawful : IsLawf
   fits (sleeps_again l is) = fits_slot _ is.event refl refl refl (sleeps-is l ∙ sym (put_back-fields (spinning l) (call_of own_thread) own_task is.state))
   fits (takes l is) = fits_take l is
   fits (leaves l is) = fits_left l is
-  fits (sets state is) = fits_state _ (state_numbered (state_number state)) (calls.State state) is.event refl refl refl is.at (set_state (state_number state)) refl (λ lock task. refl)
-  fits (schedules is) = fits_state _ states.Running calls.Schedule is.event refl refl refl is.at (λ same. cc) refl (λ lock task. refl)
+  fits (sets state is) =
+      fits_state _ (state_numbered (state_number state)) (calls.State state) is.event refl refl refl is.at (λ rested. (rested-set (state_number state) own_task (rested-states false own_task rested)).0) refl (λ lock task. refl)
+  fits (schedules is) = fits_state _ states.Running calls.Schedule is.event refl refl refl is.at (λ rested same. cc) refl (λ lock task. refl)
   fits (wakes v n reply within is) = fits_target v n reply within is
   fits (gives l is) =
       fits_lock _ l is.event refl refl refl refl

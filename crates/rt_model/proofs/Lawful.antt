@@ -13,9 +13,11 @@ use Rattle.rt_model.proofs.laws.Rows.{RowsLaw-next}
 use Rattle.rt_model.proofs.laws.KeptTops.{KeptTopsLaw-next}
 use Rattle.rt_model.proofs.laws.Queued.{QueuedLaw-next}
 use Rattle.rt_model.proofs.laws.Owners.{OwnersLaw-next}
+use Rattle.rt_model.proofs.laws.Readers.{ReadersLaw-next}
 use Rattle.rt_model.proofs.laws.Migration.{MigrationLaw-next}
 use Rattle.rt_model.proofs.laws.States.{StatesLaw-next}
 use Rattle.rt_model.proofs.laws.AwakeTop.{AwakeTopLaw-next}
+use Rattle.rt_model.proofs.laws.WokenWriter.{WokenWriterLaw-next}
 use Rattle.rt_model.proofs.laws.Keys.{KeysLaw-next}
 use Rattle.rt_model.proofs.laws.Walks.{WalksLaw-next}
 use Rattle.rt_model.proofs.laws.OwnPriorities.{OwnPrioritiesLaw-next}
@@ -32,9 +34,11 @@ IsLawful-next s made t e lawful next =
       kept = KeptTopsLaw-next s made t e lawful next;
       queued = QueuedLaw-next s made t e lawful next;
       owners = OwnersLaw-next s made t e lawful next;
+      readers = ReadersLaw-next s made t e lawful next;
       migration = MigrationLaw-next s made t e lawful next;
       states = StatesLaw-next s made t e lawful next;
       awake = AwakeTopLaw-next s made t e lawful next;
+      woken = WokenWriterLaw-next s made t e lawful next;
       keys = KeysLaw-next s made t e lawful next;
       walks = WalksLaw-next s made t e lawful next;
       priorities = OwnPrioritiesLaw-next s made t e lawful next;

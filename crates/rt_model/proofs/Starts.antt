@@ -1,12 +1,12 @@
 -- The start state of a script is lawful.
 use Rattle.std.proofs.lemmas.List.{length-map, length-replicate}
 use Rattle.std.proofs.lemmas.List.Folds.{fold-map}
-use Rattle.std.proofs.Common.{◌≡◌, inl, inr, ℕ, ◌+◌, ◌<◌, ◌≤◌, true, false, cond, List, [], ◌∷◌, length, refl, sym, ap, ◌∙◌, subst, arith, Option, Some, None, All, IfSome}
-use Rattle.std.specs.Prelude.{slice_get, option_map, is_some}
+use Rattle.std.proofs.Common.{◌≡◌, inl, inr, ℕ, ◌+◌, ◌<◌, ◌≤◌, Bool, true, false, cond, not, ◌||◌, List, [], ◌∷◌, length, refl, sym, ap, ◌∙◌, subst, arith, Option, Some, None, All, IfSome}
+use Rattle.std.specs.Prelude.{slice_get, option_map, is_some, sum}
 use Rattle.std.proofs.lemmas.List.Elements.{All-nil, All-head, All-map, All-replicate}
-use Rattle.std.proofs.lemmas.List.Sums.{get_or-le-sum_by}
+use Rattle.std.proofs.lemmas.List.Sums.{get_or-le-sum_by, sum-map, sum_by-le}
 use Rattle.std.proofs.lemmas.Option.{slice_get_cases, slice_get-map}
-use Rattle.rt_base.specs.Script.{Script, TaskLine, LockLine, all_calls, IsLockOf, IsMutex, IsSpin, IsScript, IsTaskOf, IsCallOf}
+use Rattle.rt_base.specs.Script.{Script, TaskLine, LockLine, all_calls, IsLockOf, IsMutex, IsSpin, HasReaders, IsReaderLock, IsScript, IsTaskOf, IsCallOf}
 use Rattle.rt_base.specs.declared.call.Call.{Call}
 use Rattle.rt_base.specs.declared.call.Call.TheVariants as calls
 use Rattle.rt_base.specs.declared.id.Cpu.{Cpu}
@@ -14,32 +14,37 @@ use Rattle.rt_base.specs.declared.id.LockId.{LockId}
 use Rattle.rt_base.specs.declared.id.TaskId.{TaskId}
 use Rattle.rt_base.specs.declared.kind.Kind.{Kind}
 use Rattle.rt_base.specs.declared.kind.Kind.TheVariants as kinds
-use Rattle.rt_base.specs.declared.limits.TheConstants.{MAX_PRIO}
+use Rattle.rt_base.specs.declared.limits.TheConstants.{MAX_CALLS, MAX_PRIO}
 use Rattle.rt_base.specs.declared.state.TaskState.TheVariants.{Running}
 use Rattle.rt_model.specs.declared.hold.Hold.{Hold}
 use Rattle.rt_model.specs.declared.phase.Phase.{Phase}
 use Rattle.rt_model.specs.declared.phase.Phase.TheVariants as phases
+use Rattle.rt_model.specs.declared.reader_cell.ReaderCell.{ReaderCell}
 use Rattle.rt_model.specs.declared.row.Row.{Row}
-use Rattle.rt_model.specs.Parts.{OwnerPart, TaskPart, ThreadPart, effective_of, call_of, hold_of}
+use Rattle.rt_model.specs.Parts.{OwnerPart, TaskPart, ThreadPart, effective_of, call_of, hold_of, kind_named, has_readers}
 use Rattle.rt_model.specs.Rows.{top_waiter, top_key, task_of, queued_key}
 use Rattle.rt_model.specs.Choice.{present_lock}
-use Rattle.rt_model.specs.State.{start, free_lock, fresh_task, fresh_thread, no_readers, kinds_in, owner_part, task_part, thread_part}
-use Rattle.rt_model.specs.Stage.{IsPlayed, IsPlayable, IsServed, IsForKind, IsStaged, IsPhaseOf}
+use Rattle.rt_model.specs.State.{start, free_lock, fresh_task, fresh_thread, no_readers, kinds_in, owner_part, reader_part, task_part, thread_part}
+use Rattle.rt_model.specs.Stage.{IsPlayed, IsPlayable, IsServed, HasReadersAt, IsForKind, IsStaged, IsPhaseOf}
 use Rattle.rt_model.specs.Path.{Link, links_to, Edge, IsCycle}
 use Rattle.rt_model.specs.laws.Shape.{IsShaped, IsOf}
 use Rattle.rt_model.specs.laws.Rows.{IsQueue, RowsLaw, key_at}
 use Rattle.rt_model.specs.laws.KeptTops.{kept_of}
-use Rattle.rt_model.specs.laws.Owners.{owned_by}
+use Rattle.rt_model.specs.laws.Owners.{owned_by, has_inner, is_inside, OwnersLaw}
+use Rattle.rt_model.specs.laws.Readers.{is_closing, is_writing, of_owner, going, readers_by, all_readers, ReadersLaw}
 use Rattle.rt_model.specs.laws.Migration.{pins, pinned, MigrationLaw}
-use Rattle.rt_model.specs.laws.States.{waits_spinning, IsRested}
+use Rattle.rt_model.specs.laws.States.{spins_at, has_slept, sleeps_spinning, waits_spinning, IsRested, StatesLaw}
+use Rattle.rt_model.specs.laws.WokenWriter.{WokenWriterLaw}
 use Rattle.rt_model.specs.laws.Queued.{QueuedLaw, awaited_in, asked_in}
 use Rattle.rt_model.specs.laws.Walks.{IsWalkOf}
 use Rattle.rt_model.specs.laws.OwnPriorities.{OwnPrioritiesLaw}
 use Rattle.rt_model.specs.laws.Responsible.{ResponsibleLaw}
 use Rattle.rt_model.specs.laws.Lawful.{IsLawful}
 use Rattle.rt_model.proofs.Holds.{count-none}
+use Rattle.rt_model.proofs.Inside.{outside, outside-owns}
 use Rattle.rt_model.proofs.Lists.{All-read, map-map, All-both, All-made, read-replicate}
 use Rattle.rt_model.proofs.Within.{HoldsFit}
+use Rattle.rt_model.proofs.laws.Migration.{unpinned}
 use Rattle.rt_model.proofs.laws.Shape.{OwnerIn, RowsIn, KeptFits, KindsFit, AreServed, AreFit, KnowsKinds}
 
 -- ---- the script
@@ -57,6 +62,13 @@ served_in script (calls.Unlock l) is played = lock_within script IsMutex l is
 served_in script (calls.Spin l) is played = lock_within script IsSpin l is
 served_in script (calls.TrySpin l) is played = lock_within script IsSpin l is
 served_in script (calls.Unspin l) is played = lock_within script IsSpin l is
+served_in script (calls.Read l) is played = lock_within script IsReaderLock l is
+served_in script (calls.TryRead l) is played = lock_within script IsReaderLock l is
+served_in script (calls.Unread l) is played = lock_within script IsReaderLock l is
+served_in script (calls.Write l) is played = lock_within script IsReaderLock l is
+served_in script (calls.TryWrite l) is played = lock_within script IsReaderLock l is
+served_in script (calls.Unwrite l) is played = lock_within script IsReaderLock l is
+served_in script (calls.Downgrade l) is played = lock_within script IsReaderLock l is
 served_in script (calls.State state) is played = is
 served_in script calls.Schedule is played = is
 served_in script (calls.Wake t) is played = is
@@ -74,14 +86,25 @@ each_call script P holds valid playable =
 pub served_calls : (script : Script) → IsScript script → IsPlayable script → All (λ (line : TaskLine). All (IsServed (length script.tasks) (length script.locks)) line.calls) script.tasks
 served_calls script valid playable = each_call script (IsServed (length script.tasks) (length script.locks)) (served_in script) valid playable
 
--- the kind of a lock that a call of a script names
-kind_within : (script : Script) (kind : Kind) (l : LockId) → IsLockOf script (λ line. line.kind ≡ kind) l → slice_get (kinds_in script) l.0 ≡ Some kind
-kind_within script kind l is = elim (slice_get_cases script.locks l.0).1 [
+-- the kind of a lock that a call of a script names is that of its line
+line_within : (script : Script) (fits : LockLine → Type 0) (l : LockId) → IsLockOf script fits l → (line : LockLine) × (slice_get (kinds_in script) l.0 ≡ Some line.kind) × fits line
+line_within script fits l is = elim (slice_get_cases script.locks l.0).1 [
   | inl here ↦
-      let fits : here.0.kind ≡ kind = rw here.2 at is in
-      slice_get-map (λ (line : LockLine). line.kind) script.locks l.0 ∙ (ap (option_map (λ (line : LockLine). line.kind)) here.2 ∙ ap Some fits)
+      let of_line : fits here.0 = rw here.2 at is in
+      (here.0, slice_get-map (λ (line : LockLine). line.kind) script.locks l.0 ∙ ap (option_map (λ (line : LockLine). line.kind)) here.2, of_line)
   | inr past ↦ absurd (rw past.1 at is)
 ]
+
+kind_within : (script : Script) (kind : Kind) (l : LockId) → IsLockOf script (λ line. line.kind ≡ kind) l → slice_get (kinds_in script) l.0 ≡ Some kind
+kind_within script kind l is = let line = line_within script (λ line. line.kind ≡ kind) l is in line.1 ∙ ap Some line.2
+
+readers_kind : (kind : Kind) → HasReaders kind → has_readers kind ≡ true
+readers_kind kinds.RwLock is = refl
+readers_kind kinds.RwSem is = refl
+readers_kind _ is = absurd is
+
+readers_within : (script : Script) (l : LockId) → IsLockOf script IsReaderLock l → HasReadersAt (kinds_in script) l.0
+readers_within script l is = let line = line_within script IsReaderLock l is in ap (option_map has_readers) line.1 ∙ ap Some (readers_kind line.0.kind line.2)
 
 -- each call is one that its lock's kind has
 fit_in : (script : Script) (call : Call) → IsCallOf script call → IsPlayed call → IsForKind (kinds_in script) call
@@ -92,6 +115,13 @@ fit_in script (calls.Unlock l) is played = kind_within script kinds.Mutex l is
 fit_in script (calls.Spin l) is played = kind_within script kinds.Spin l is
 fit_in script (calls.TrySpin l) is played = kind_within script kinds.Spin l is
 fit_in script (calls.Unspin l) is played = kind_within script kinds.Spin l is
+fit_in script (calls.Read l) is played = readers_within script l is
+fit_in script (calls.TryRead l) is played = readers_within script l is
+fit_in script (calls.Unread l) is played = readers_within script l is
+fit_in script (calls.Write l) is played = readers_within script l is
+fit_in script (calls.TryWrite l) is played = readers_within script l is
+fit_in script (calls.Unwrite l) is played = readers_within script l is
+fit_in script (calls.Downgrade l) is played = readers_within script l is
 fit_in script _ is played = tt
 
 -- a task makes no more calls than all tasks together
@@ -123,6 +153,7 @@ IsShaped-start script valid =
     record {
       few_tasks = rw threads valid.tasks;
       few_locks = rw locks valid.locks;
+      few_calls = subst (λ (n : ℕ). n ≤ MAX_CALLS) (sym (ap sum (map-map (λ (thread : ThreadPart). length thread.calls) fresh script.tasks))) valid.calls;
       readers = length-replicate n no_readers ∙ sym locks;
       tasks = length-map script.tasks (λ (line : TaskLine). fresh_task n line.own) ∙ sym threads;
       kept = rw locks (All-made (KeptFits n) (λ (line : TaskLine). fresh_task n line.own) (λ line. length-replicate n None) script.tasks);
@@ -178,15 +209,56 @@ module _ (script : Script) where
       each_thread (λ thread. (hold_of thread l).owns ≡ false) t
       (λ kinds cs cpu. ap (λ (hold : Hold). hold.owns) (read-replicate (length kinds) l.0 (record { owns = false; reads = 0 })))
 
+  outside-start : (l : LockId) (t : TaskId) → is_inside (thread_part (start script) t) l ≡ false
+  outside-start l t = outside (thread_part (start script) t) l (ap has_inner (phase-start t))
+
+  OwnersLaw-start : OwnersLaw (start script)
+  OwnersLaw-start = record {
+    owned = λ l t. outside-owns (thread_part (start script) t) l (ap has_inner (phase-start t)) ∙ (unheld-start l t ∙ sym (ap (λ (o : Option TaskId). owned_by o t) (owner-start l)));
+    inside = λ l t is. let out = outside-start l t in absurd cc;
+  }
+
+  -- nobody reads or writes
+  cell-start : (l : LockId) → reader_part (start script) l ≡ no_readers
+  cell-start l = read-replicate (length script.locks) l.0 no_readers
+
+  unread : (kinds : List Kind) (cs : List Call) (cpu : Cpu) (l : LockId) → (hold_of (fresh_thread kinds cs cpu) l).reads ≡ 0
+  unread kinds cs cpu l = ap (λ (hold : Hold). hold.reads) (read-replicate (length kinds) l.0 (record { owns = false; reads = 0 }))
+
+  no_reader : (l : LockId) → all_readers (start script).threads l ≡ 0
+  no_reader l =
+      let by : ThreadPart → ℕ = λ thread. readers_by thread l in
+      let each = All-made (λ (thread : ThreadPart). readers_by thread l ≤ 0) (λ (line : TaskLine). fresh_thread (kinds_in script) line.calls line.cpu) (λ line. omega (arith, unread (kinds_in script) line.calls line.cpu l)) script.tasks in
+      omega (arith, sum-map by (start script).threads, sum_by-le by 0 (start script).threads each)
+
+  ReadersLaw-start : ReadersLaw (start script)
+  ReadersLaw-start = record {
+    bias = λ l. ap (λ (cell : ReaderCell). cell.bias) (cell-start l) ∙ sym (ap (λ (o : Option TaskId). not (of_owner (λ thread. is_closing thread l || is_writing thread l) (start script) o)) (owner-start l));
+    writer = λ l. ap (λ (cell : ReaderCell). cell.writer) (cell-start l) ∙ sym (ap (of_owner (λ thread. is_writing thread l) (start script)) (owner-start l));
+    alone = λ l set. ap (λ (cell : ReaderCell). cell.count) (cell-start l);
+    count = λ l. ap (λ (cell : ReaderCell). cell.count) (cell-start l) ∙ sym (no_reader l);
+    gone = λ l t. each_thread (λ thread. going thread l ≤ (hold_of thread l).reads) t (λ kinds cs cpu. omega arith);
+    few = λ l t. each_thread (λ thread. (hold_of thread l).reads ≤ thread.answered) t (λ kinds cs cpu. omega (arith, unread kinds cs cpu l));
+  }
+
+  -- nor sleeps
+  WokenWriterLaw-start : WokenWriterLaw (start script)
+  WokenWriterLaw-start t l slept present asleep empty = let awake : has_slept (thread_part (start script) t).phase ≡ false = ap has_slept (phase-start t) in absurd cc
+
+  StatesLaw-start : StatesLaw (start script)
+  StatesLaw-start t =
+      let thread = thread_part (start script) t in
+      subst (λ (b : Bool). IsRested b (task_part (start script) t)) (sym (waits-not (task_part (start script) t) (blocked-start t)))
+      (each_task (IsRested false) t (λ n own. (λ is. cc, refl)))
+    where
+      waits-not : (task : TaskPart) → task.blocked ≡ None → waits_spinning (thread_part (start script) t) task ≡ false
+      waits-not task none = λ i. spins_at (thread_part (start script) t) (none i) || sleeps_spinning (phase-start t i) (kind_named (thread_part (start script) t) (present_lock (thread_part (start script) t)))
+
   -- what is held pins nothing
   MigrationLaw-start : MigrationLaw (start script)
   MigrationLaw-start t =
       each_thread (λ thread. thread.migration ≡ pinned thread) t
       (λ kinds cs cpu. sym (count-none pins kinds (length kinds) (record { owns = false; reads = 0 }) unpinned))
-    where
-      unpinned : (kind : Kind) → pins kind (record { owns = false; reads = 0 }) ≡ 0
-      unpinned kinds.Spin = refl
-      unpinned _ = refl
 
   RowsLaw-start : RowsLaw (start script) 0
   RowsLaw-start = record {
@@ -231,10 +303,12 @@ IsLawful-start script valid playable = record {
   rows = RowsLaw-start script;
   kept = λ l t. each_task script (λ task. kept_of task l ≡ None) t (λ n own. read-replicate n l.0 None) ∙ sym (ap (λ (lock : OwnerPart). cond (owned_by lock.owner t) (top_key lock.rows) None) (lock-start script l));
   queued = QueuedLaw-start script;
-  owners = λ l t. unheld-start script l t ∙ sym (ap (λ (o : Option TaskId). owned_by o t) (owner-start script l));
+  owners = OwnersLaw-start script;
+  readers = ReadersLaw-start script;
   migration = MigrationLaw-start script;
-  states = λ t. each_task script (λ task. IsRested (waits_spinning (thread_part (start script) t) task) task) t (λ n own. (λ is. cc, refl));
+  states = StatesLaw-start script;
   awake = λ l free. subst (λ (rows : List Row). IfSome (top_waiter rows) (λ row. (task_part (start script) (task_of row)).state ≡ Running)) (sym (rows-start script l)) tt;
+  woken = WokenWriterLaw-start script;
   keys = λ t apart. subst (λ (b : Option (LockId × ℕ)). IfSome b (λ at. at.1 ≡ effective_of (task_part (start script) t))) (sym (blocked-start script t)) tt;
   walks = λ t. subst (IsWalkOf (length (start script).threads) (length (start script).locks) t (present_lock (thread_part (start script) t))) (sym (phase-start script t)) tt;
   priorities = OwnPrioritiesLaw-start script valid;

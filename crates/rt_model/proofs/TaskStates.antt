@@ -1,5 +1,5 @@
--- What an event keeps of a task's state and of what is saved.
-use Rattle.std.proofs.Common.{◌≡◌, ◌≢◌, ◌⊎◌, inl, inr, ℕ, zero, suc, ◌<◌, Bool, true, false, cond, ◌&&◌, ◌||◌, List, length, refl, sym, ap, ◌∙◌, Option, Some, None, unwrap_or}
+-- What an event keeps of a task's state and of what is saved, and which threads sleep for readers.
+use Rattle.std.proofs.Common.{◌≡◌, ◌≢◌, ◌⊎◌, inl, inr, ℕ, zero, suc, ◌<◌, Bool, true, false, cond, ◌&&◌, ◌||◌, List, length, refl, sym, ap, ◌∙◌, subst, Option, Some, None, unwrap_or}
 use Rattle.std.specs.Prelude.{is_some, nat_eq, slice_get}
 use Rattle.std.proofs.lemmas.Bool.{cond_both}
 use Rattle.rt_base.specs.Kind.{spins}
@@ -9,24 +9,51 @@ use Rattle.rt_base.specs.declared.id.LockId.{LockId}
 use Rattle.rt_base.specs.declared.id.TaskId.{TaskId}
 use Rattle.rt_base.specs.declared.kind.Kind.{Kind}
 use Rattle.rt_base.specs.declared.kind.Kind.TheVariants.{Mutex}
+use Rattle.rt_base.specs.declared.reply.Reply.{Reply}
+use Rattle.rt_base.specs.declared.reply.Reply.TheVariants.{Deadlock, Interrupted, Done}
 use Rattle.rt_base.specs.declared.state.TaskState.{TaskState}
 use Rattle.rt_base.specs.declared.state.TaskState.TheVariants as states
 use Rattle.rt_model.specs.declared.event.Event.{Event}
 use Rattle.rt_model.specs.declared.event_kind.EventKind.{EventKind}
 use Rattle.rt_model.specs.declared.event_kind.EventKind.TheVariants as kinds
-use Rattle.rt_model.specs.Parts.{OwnerPart, TaskPart, ThreadPart, kind_of, kind_named}
+use Rattle.rt_model.specs.declared.phase.Phase.{Phase}
+use Rattle.rt_model.specs.declared.phase.Phase.TheVariants as phases
+use Rattle.rt_model.specs.declared.phase.Route.{Route}
+use Rattle.rt_model.specs.declared.phase.Route.TheVariants.{Full, Short}
+use Rattle.rt_model.specs.Parts.{OwnerPart, TaskPart, ThreadPart, kind_of, kind_named, call_of}
 use Rattle.rt_model.specs.Rows.{top_key}
-use Rattle.rt_model.specs.State.{State, task_part, thread_part}
+use Rattle.rt_model.specs.Path.{first_owner}
+use Rattle.rt_model.specs.State.{State, shared, task_part, thread_part}
+use Rattle.rt_model.specs.events.Readers.{phase_after_rin, writer_rests}
+use Rattle.rt_model.specs.events.Wait.{phase_after_wait}
+use Rattle.rt_model.specs.events.Walk.{phase_after_link, phase_after_end}
+use Rattle.rt_model.specs.steps.Chain.{followed, goes_on, phase_of_walk}
+use Rattle.rt_model.specs.steps.Readers.{wakes_writer}
 use Rattle.rt_model.specs.steps.Task.{with_top, sleep_of, saved_for, restored, leave_queue, sleeps, is_interruptible, woken_up, woken_by, lock_state_woken, lock_woken, state_numbered}
-use Rattle.rt_model.specs.Choice.{present_lock}
-use Rattle.rt_model.specs.Effect.{Around}
-use Rattle.rt_model.specs.Rules.{effect}
+use Rattle.rt_model.specs.steps.Thread.{phase_after_got, phase_after_busy, answered_with}
+use Rattle.rt_model.specs.Choice.{called_lock, present_lock}
+use Rattle.rt_model.specs.Effect.{Around, around}
+use Rattle.rt_model.specs.Rules.{touched, effect}
+use Rattle.rt_model.specs.StateAfter.{shared_after, state_after}
+use Rattle.rt_model.specs.laws.Lawful.{IsLawful}
+use Rattle.rt_model.specs.laws.Queued.{awaited_in}
 use Rattle.rt_model.specs.laws.Shape.{IsShaped}
-use Rattle.rt_model.specs.laws.States.{has_slept, spins_at, waits_spinning, IsRested}
+use Rattle.rt_model.specs.laws.States.{has_slept, spins_at, sleeps_spinning, waits_spinning, IsRested}
+use Rattle.rt_model.proofs.Calling.{ReturnsBy, from_hold, from_inside}
 use Rattle.rt_model.proofs.CellStepLemmas.{where_changed}
 use Rattle.rt_model.proofs.Lists.{All-default}
-use Rattle.rt_model.proofs.PartsAfter.{OthersKeep}
-use Rattle.rt_model.proofs.Waiters.{blocking}
+use Rattle.rt_model.proofs.Named.{within}
+use Rattle.rt_model.proofs.NextEvents.{IsNext, by_own, by_acquire, by_wait, by_release, by_reading, by_walk, by_confirm, by_wakeup, by_setprio, task-IsNext}
+use Rattle.rt_model.proofs.PartsAfter.{OthersKeep, changes_readers, thread-own}
+use Rattle.rt_model.proofs.Reading.{is_idle, reading-was_idle}
+use Rattle.rt_model.proofs.Routes.{goes_on-holds}
+use Rattle.rt_model.proofs.Waiters.{blocking, idle-blocked, walk-phase}
+use Rattle.rt_model.proofs.events.Acquire.{AsksBy, from_start, from_reading, AcquiresIn, by_asking, by_trying, TakesIn, from_slow, from_wait, from_trying, is_fast, is_mark, is_take, is_busy}
+use Rattle.rt_model.proofs.events.Readers.{IsReading, reading-in}
+use Rattle.rt_model.proofs.events.Release.{is_free, is_give}
+use Rattle.rt_model.proofs.events.Wait.{is_wait, is_again, is_leave}
+use Rattle.rt_model.proofs.events.Walk.{is_walk, is_walkend, is_restart, is_cycle}
+use Rattle.rt_model.proofs.events.Wakeups.{is_state, is_sched, is_wake, is_signal}
 
 -- the state, and what is saved, are as P says
 abbrev pub HasStates : (TaskState → TaskState → Type 0) → TaskPart → Type 0
@@ -188,8 +215,14 @@ pub rested-again : (spinning : Bool) (call : Option Call) (task : TaskPart) → 
 rested-again true call task was = (inl refl, was.1)
 rested-again false call task was = (sleeping call, was.1)
 
+-- a writer goes to rest, and sleeps for readers then
+pub writer-rested : (spinning : Bool) (call : Option Call) (phase : Phase) (task : TaskPart) → HasStates (AreRested (has_slept phase && spinning)) task
+    → HasStates (AreRested spinning) (writer_rests phase (cond spinning states.LockWait (sleep_of call)) task)
+writer-rested spinning call phases.WWait task was = rested-again spinning call task was
+writer-rested spinning call _ task was = rested-blocked spinning call task was
+
 -- its state is restored
-rested-restored : (spinning : Bool) (task : TaskPart) → HasStates (AreRested spinning) task → HasStates (AreRested false) (restored spinning task)
+pub rested-restored : (spinning : Bool) (task : TaskPart) → HasStates (AreRested spinning) task → HasStates (AreRested false) (restored spinning task)
 rested-restored true task was = (was.1, refl)
 rested-restored false task was = (λ same. cc, was.1)
 
@@ -228,19 +261,226 @@ queued_waits thread task awake =
     or_false true = refl
     or_false false = refl
 
+-- and who sleeps for the readers of a lock waits for a spinning kind where that is of one
+pub sleeper_waits : (thread : ThreadPart) (task : TaskPart) (l : LockId) → has_slept thread.phase ≡ true → present_lock thread ≡ Some l → task.blocked ≡ None → waits_spinning thread task ≡ spins (kind_of thread l)
+sleeper_waits thread task l slept present unblocked = λ i. spins_at thread (unblocked i) || (slept i && spins (kind_named thread (present i)))
+
 -- so it is the same where these stay
 pub still_waits : (thread after : ThreadPart) (blocked left : Option (LockId × ℕ)) → after.kinds ≡ thread.kinds → blocking left ≡ blocking blocked → spins_at after left ≡ spins_at thread blocked
 still_waits thread after blocked left known same = spins_told after left ∙ ((λ i. spins_among (known i) (same i)) ∙ sym (spins_told thread blocked))
+
+pub same_waits : (thread after : ThreadPart) (task left : TaskPart) → after ≡ thread → blocking left.blocked ≡ blocking task.blocked → waits_spinning after left ≡ waits_spinning thread task
+same_waits thread after task left kept same =
+    ap (λ (th : ThreadPart). waits_spinning th left) kept
+    ∙ ap (λ (b : Bool). b || sleeps_spinning thread.phase (kind_named thread (present_lock thread))) (still_waits thread thread task.blocked left.blocked refl same)
 
 -- and of a task that is blocked on a lock it is whether that spins, as any thread with the same kinds knows it
 pub waits_there : (thread other : ThreadPart) (blocked : Option (LockId × ℕ)) (l : LockId) → thread.kinds ≡ other.kinds → blocking blocked ≡ Some l → spins_at thread blocked ≡ spins (kind_of other l)
 waits_there thread other blocked l known is = spins_told thread blocked ∙ (λ i. spins_among (known i) (is i))
 
--- all threads know the same kinds, so any of them tells it of a task that is blocked on the lock and doesn't sleep for readers
-pub waits_as : (s : State) (u v : TaskId) (l : LockId) → IsShaped s → u.0 < length s.threads → v.0 < length s.threads → blocking (task_part s u).blocked ≡ Some l → has_slept (thread_part s u).phase ≡ false
-    → waits_spinning (thread_part s u) (task_part s u) ≡ spins (kind_of (thread_part s v) l)
-waits_as s u v l shaped here there is awake =
-    queued_waits (thread_part s u) (task_part s u) awake ∙ waits_there (thread_part s u) (thread_part s v) (task_part s u).blocked l (known u here ∙ sym (known v there)) is
+-- all threads know the same kinds
+pub alike-kinds : (s : State) (u v : TaskId) → IsShaped s → u.0 < length s.threads → v.0 < length s.threads → (thread_part s u).kinds ≡ (thread_part s v).kinds
+alike-kinds s u v shaped here there = known u here ∙ sym (known v there)
   where
     known : (w : TaskId) → w.0 < length s.threads → (thread_part s w).kinds ≡ shaped.known
     known w lt = All-default (λ (thread : ThreadPart). thread.kinds ≡ shaped.known) s.threads w.0 _ shaped.alike lt
+
+-- so any of them tells it of a task that is blocked on the lock and doesn't sleep for readers
+pub waits_as : (s : State) (u v : TaskId) (l : LockId) → IsShaped s → u.0 < length s.threads → v.0 < length s.threads → blocking (task_part s u).blocked ≡ Some l → has_slept (thread_part s u).phase ≡ false
+    → waits_spinning (thread_part s u) (task_part s u) ≡ spins (kind_of (thread_part s v) l)
+waits_as s u v l shaped here there is awake =
+    queued_waits (thread_part s u) (task_part s u) awake ∙ waits_there (thread_part s u) (thread_part s v) (task_part s u).blocked l (alike-kinds s u v shaped here there) is
+
+-- ---- which threads sleep for readers
+
+-- an event of this kind sends its own task to sleep for readers
+abbrev pub falls_asleep : EventKind → Bool
+falls_asleep kinds.WSleep = true
+falls_asleep _ = false
+
+-- no step but that one leads there
+got-up : (call : Option Call) (phase : Phase) → has_slept phase ≡ false → has_slept (phase_after_got call phase) ≡ false
+got-up (Some (calls.Read l)) phase up = refl
+got-up (Some (calls.Write l)) phase up = refl
+got-up (Some (calls.TryWrite l)) phase up = refl
+got-up _ phase up = up
+
+busy-up : (call : Option Call) (phase : Phase) → has_slept phase ≡ false → has_slept (phase_after_busy call phase) ≡ false
+busy-up (Some (calls.Read l)) phase up = refl
+busy-up _ phase up = up
+
+rin-up : (phase : Phase) → has_slept phase ≡ false → has_slept (phase_after_rin phase) ≡ false
+rin-up phases.ReadIn up = refl
+rin-up _ up = up
+
+wait-up : (t : TaskId) (l : Option LockId) (owner : Option TaskId) (blocked : Bool) → has_slept (phase_after_wait t l owner blocked) ≡ false
+wait-up t None owner blocked = refl
+wait-up t (Some l) None blocked = refl
+wait-up t (Some l) (Some o) true = refl
+wait-up t (Some l) (Some o) false = refl
+
+ended-up : (route : Route) → has_slept (phase_of_walk route None) ≡ false
+ended-up (Full path) = refl
+ended-up (Short answer) = refl
+
+walk-up : (t : TaskId) (route onward : Route) (owner : Option TaskId) (task : TaskPart) → has_slept (phase_of_walk route (goes_on t onward owner task)) ≡ false
+walk-up t route onward owner task = goes_on-holds (λ next. has_slept (phase_of_walk route next) ≡ false) t onward owner task (ended-up route) (λ path is own blocked. refl) (λ o on some stands. refl)
+
+link-up : (t : TaskId) (l : Option LockId) (owner : Option TaskId) (task : TaskPart) (phase : Phase) → has_slept phase ≡ false → has_slept (phase_after_link t l owner task phase) ≡ false
+link-up t None owner task phase up = up
+link-up t (Some l) owner task (phases.Walk cursor route) up = walk-up t route (followed cursor l route) owner task
+link-up t (Some l) owner task _ up = up
+
+end-up : (phase : Phase) → has_slept phase ≡ false → has_slept (phase_after_end phase) ≡ false
+end-up (phases.Walk cursor route) up = ended-up route
+end-up _ up = up
+
+phase-up : (kind : EventKind) (e : Event) (th : ThreadPart) (found left : Around) → falls_asleep kind ≡ false → has_slept th.phase ≡ false → has_slept ((effect kind e th found).thread left th).phase ≡ false
+phase-up kinds.WSleep e th found left is up = cc
+phase-up kinds.Fast e th found left is up = got-up (call_of th) th.phase up
+phase-up kinds.Mark e th found left is up = refl
+phase-up kinds.Take e th found left is up = got-up (call_of th) th.phase up
+phase-up kinds.Busy e th found left is up = busy-up (call_of th) th.phase up
+phase-up kinds.Wait e th found left is up = wait-up e.task e.lock e.owner (is_some found.owner.blocked)
+phase-up kinds.Leave e th found left is up = walk-up e.task (Short Interrupted) (Short Interrupted) e.owner left.owner
+phase-up kinds.Cycle e th found left is up = walk-up e.task (Short Deadlock) (Short Deadlock) (first_owner e.path) left.owner
+phase-up kinds.Walk e th found left is up = link-up e.task e.lock e.owner left.owner th.phase up
+phase-up kinds.WalkEnd e th found left is up = end-up th.phase up
+phase-up kinds.Restart e th found left is up = refl
+phase-up kinds.SetPrio e th found left is up = walk-up e.task (Short Done) (Short Done) e.other left.other
+phase-up kinds.RIn e th found left is up = rin-up th.phase up
+phase-up kinds.ROut e th found left is up = cond_both (wakes_writer left.readers) phases.WakeWriter th.phase (λ phase. has_slept phase ≡ false) (λ last. refl) (λ others. up)
+phase-up kinds.Unbias e th found left is up = refl
+phase-up kinds.WOpen e th found left is up = refl
+phase-up _ e th found left is up = up
+
+answer-up : (thread : ThreadPart) (reply : Option Reply) → has_slept thread.phase ≡ false → has_slept (answered_with thread reply).phase ≡ false
+answer-up thread None up = up
+answer-up thread (Some answer) up = refl
+
+-- a thread that doesn't sleep for readers does so after no event of its own of another kind
+pub stays-up : (s : State) (e : Event) → e.task.0 < length s.threads → falls_asleep e.kind ≡ false → has_slept (thread_part s e.task).phase ≡ false → has_slept (thread_part (state_after s e) e.task).phase ≡ false
+stays-up s e lt is up =
+    let th = thread_part s e.task in
+    ap (λ (thread : ThreadPart). has_slept thread.phase) (thread-own s e e refl lt)
+    ∙ answer-up _ e.reply (phase-up e.kind e th (around (shared s) (touched e.kind e)) (around (shared_after (shared s) th e) (touched e.kind e)) is up)
+
+-- an event's own task sleeps for readers neither before nor after
+pub record IsUp (s : State) (t : TaskId) (e : Event) : Type 0 where
+  pub before : has_slept (thread_part s t).phase ≡ false
+  pub after : has_slept (thread_part (state_after s e) t).phase ≡ false
+
+-- ---- events at reader parts, and all others
+
+-- the event of a thread in this phase is one at a reader part, or wakes a writer
+abbrev pub at_readers : Phase → Bool
+at_readers phases.ReadIn = true
+at_readers phases.Unbias = true
+at_readers phases.WTry = true
+at_readers phases.WWait = true
+at_readers phases.WakeWriter = true
+at_readers _ = false
+
+-- and one of this kind is
+abbrev pub of_readers : EventKind → Bool
+of_readers kinds.RIn = true
+of_readers kinds.ROut = true
+of_readers kinds.Unbias = true
+of_readers kinds.WTake = true
+of_readers kinds.WSleep = true
+of_readers kinds.WOpen = true
+of_readers kinds.WWake = true
+of_readers _ = false
+
+-- an event of a thread in no such phase, that is of no such kind
+pub record IsElse (s : State) (t : TaskId) (e : Event) : Type 0 where
+  pub phase : at_readers (thread_part s t).phase ≡ false
+  pub kind : of_readers e.kind ≡ false
+
+else-awake : (phase : Phase) → at_readers phase ≡ false → has_slept phase ≡ false
+else-awake phases.WWait is = cc
+else-awake _ is = refl
+
+else-stays : (kind : EventKind) → of_readers kind ≡ false → falls_asleep kind ≡ false
+else-stays kinds.WSleep is = cc
+else-stays _ is = refl
+
+pub else-kept : (kind : EventKind) → of_readers kind ≡ false → changes_readers kind ≡ false
+else-kept kinds.RIn is = cc
+else-kept kinds.ROut is = cc
+else-kept kinds.Unbias is = cc
+else-kept kinds.WTake is = cc
+else-kept kinds.WOpen is = cc
+else-kept _ is = refl
+
+module _ (s : State) (made : ℕ) (t : TaskId) (e : Event) (lawful : IsLawful s made) (next : IsNext s t e) where
+  -- a task that doesn't sleep for readers does so after no event of another kind
+  pub up-as : (x : Event) → e ≡ x → falls_asleep x.kind ≡ false → has_slept (thread_part s t).phase ≡ false → IsUp s t e
+  up-as x is stays up =
+      let own : e.task ≡ t = task-IsNext s t e next in
+      let before : has_slept (thread_part s e.task).phase ≡ false = subst (λ (v : TaskId). has_slept (thread_part s v).phase ≡ false) (sym own) up in
+      let after = stays-up s e (within s made t e lawful next).task (ap (λ (y : Event). falls_asleep y.kind) is ∙ stays) before in
+      record { before = up; after = subst (λ (v : TaskId). has_slept (thread_part (state_after s e) v).phase ≡ false) own after }
+
+  pub else-up : IsElse s t e → IsUp s t e
+  else-up is = up-as e refl (else-stays e.kind is.kind) (else-awake (thread_part s t).phase is.phase)
+
+  other : (x : Event) (phase : Phase) → e ≡ x → of_readers x.kind ≡ false → (thread_part s t).phase ≡ phase → at_readers phase ≡ false → IsElse s t e
+  other x phase is kind at before = record { phase = ap at_readers at ∙ before; kind = ap (λ (y : Event). of_readers y.kind) is ∙ kind }
+
+  else-asks : (x : Event) (l : LockId) → e ≡ x → of_readers x.kind ≡ false → AsksBy s t l → IsElse s t e
+  else-asks x l is kind (from_start asks unheld) = other x _ is kind asks.at.phased refl
+  else-asks x l is kind (from_reading asks) = other x _ is kind asks.at.phased refl
+
+  else-acquires : (x : Event) (l : LockId) → e ≡ x → of_readers x.kind ≡ false → AcquiresIn s t l → IsElse s t e
+  else-acquires x l is kind (by_asking asks) = else-asks x l is kind asks
+  else-acquires x l is kind (by_trying tries) = other x _ is kind tries.at.phased refl
+
+  else-takes : (x : Event) (l : LockId) → e ≡ x → of_readers x.kind ≡ false → TakesIn s t l → IsElse s t e
+  else-takes x l is kind (from_slow asks) = other x _ is kind asks.at.phased refl
+  else-takes x l is kind (from_wait asks awake) = other x _ is kind asks.at.phased refl
+  else-takes x l is kind (from_trying tries) = other x _ is kind tries.at.phased refl
+
+  else-returns : (x : Event) (l : LockId) (call : Call) → e ≡ x → of_readers x.kind ≡ false → ReturnsBy s t l call → IsElse s t e
+  else-returns x l call is kind (from_hold releases at held) = other x _ is kind at.phased refl
+  else-returns x l call is kind (from_inside ends at) = other x _ is kind at.phased refl
+
+  -- each event but those at reader parts is such a one
+  pub else-or-reading : IsElse s t e ⊎ ((l : LockId) × IsReading s t l e)
+  else-or-reading = by_kind next
+    where
+      by_kind : IsNext s t e → IsElse s t e ⊎ ((l : LockId) × IsReading s t l e)
+      by_kind (by_own call answer is) = inl (other _ _ is.event refl is.at.phased refl)
+      by_kind (by_acquire l (is_fast is)) = inl (else-acquires _ l is.event refl is.how)
+      by_kind (by_acquire l (is_mark is)) = inl (else-asks _ l is.event refl is.how)
+      by_kind (by_acquire l (is_take is)) = inl (else-takes _ l is.event refl is.how)
+      by_kind (by_acquire l (is_busy is)) = inl (other _ _ is.event refl is.at.at.phased refl)
+      by_kind (by_wait l (is_wait is)) = inl (other _ _ is.event refl is.at.at.phased refl)
+      by_kind (by_wait l (is_again is)) = inl (other _ _ is.event refl is.at.at.phased refl)
+      by_kind (by_wait l (is_leave is)) = inl (other _ _ is.event refl is.at.phased refl)
+      by_kind (by_release l (is_free is)) = inl (else-returns _ l is.at.call is.event refl is.at.by)
+      by_kind (by_release l (is_give is)) = inl (else-returns _ l is.at.call is.event refl is.at.by)
+      by_kind (by_reading l is) = inr (l, is)
+      by_kind (by_walk route u (is_walk l key is)) = inl (other _ _ is.event refl (walk-phase s t route u is.how) refl)
+      by_kind (by_walk route u (is_walkend is)) = inl (other _ _ is.event refl (walk-phase s t route u is.how) refl)
+      by_kind (by_confirm l path (is_restart link is)) = inl (other _ _ is.event refl is.at.at.phased refl)
+      by_kind (by_confirm l path (is_cycle is)) = inl (other _ _ is.event refl is.at.at.phased refl)
+      by_kind (by_wakeup (is_state state is)) = inl (other _ _ is.event refl is.at.phased refl)
+      by_kind (by_wakeup (is_sched is)) = inl (other _ _ is.event refl is.at.phased refl)
+      by_kind (by_wakeup (is_wake u is)) = inl (other _ _ is.event refl is.at.phased refl)
+      by_kind (by_wakeup (is_signal u is)) = inl (other _ _ is.event refl is.at.phased refl)
+      by_kind (by_setprio u prio is) = inl (other _ _ is.event refl is.at.phased refl)
+
+-- ---- a task whose event is at a reader part
+
+awaits-none : (phase : Phase) (lock : Option LockId) → is_idle phase ≡ true → awaited_in phase lock ≡ None
+awaits-none phases.Wait lock idle = cc
+awaits-none (phases.Walk cursor route) lock idle = cc
+awaits-none (phases.Confirm path) lock idle = cc
+awaits-none _ lock idle = refl
+
+-- it is blocked on nothing
+pub reading-unblocked : (s : State) (made : ℕ) (t : TaskId) (l : LockId) (e : Event) → IsLawful s made → IsReading s t l e → (task_part s t).blocked ≡ None
+reading-unblocked s made t l e lawful is =
+    let at = reading-in s t l e is in
+    idle-blocked s made t lawful at.phase at.call at.at (awaits-none at.phase (called_lock (thread_part s t).cpu at.call) (ap is_idle (sym at.at.phased) ∙ reading-was_idle s t l e is))

@@ -7,6 +7,7 @@ pub mod Migration
 pub mod KeptTops
 pub mod Queued
 pub mod AwakeTop
+pub mod WokenWriter
 pub mod Keys
 pub mod Walks
 pub mod States

@@ -12,7 +12,7 @@ use Rattle.rt_model.specs.declared.event.Event.{Event}
 use Rattle.rt_model.specs.declared.phase.Phase.TheVariants as phases
 use Rattle.rt_model.specs.declared.phase.Route.{Route}
 use Rattle.rt_model.specs.declared.row.Row.{Row}
-use Rattle.rt_model.specs.Parts.{OwnerPart, TaskPart, effective_of, kind_of}
+use Rattle.rt_model.specs.Parts.{OwnerPart, TaskPart, call_of, effective_of, kind_of}
 use Rattle.rt_model.specs.Rows.{top_waiter, top_task, top_changed, task_of, is_of, queued_key, insert_row, without}
 use Rattle.rt_model.specs.State.{State, shared, owner_part, task_part, thread_part}
 use Rattle.rt_model.specs.steps.Lock.{requeued, left_by}
@@ -30,7 +30,7 @@ use Rattle.rt_model.specs.laws.States.{waits_spinning, IsRested}
 use Rattle.rt_model.proofs.Calling.{asks-lock}
 use Rattle.rt_model.proofs.Lists.{if_some, if_found, All-both}
 use Rattle.rt_model.proofs.Named.{top_within}
-use Rattle.rt_model.proofs.NextEvents.{IsNext, by_own, by_acquire, by_wait, by_release, by_walk, by_confirm, by_wakeup, by_setprio, task-IsNext}
+use Rattle.rt_model.proofs.NextEvents.{IsNext, by_own, by_acquire, by_wait, by_release, by_reading, by_walk, by_confirm, by_wakeup, by_setprio, task-IsNext}
 use Rattle.rt_model.proofs.events.Acquire.{is_fast, is_mark, is_take, is_busy}
 use Rattle.rt_model.proofs.events.Wait.{IsWait, IsAgain, is_wait, is_again, is_leave}
 use Rattle.rt_model.proofs.events.Release.{IsGive, is_free, is_give}
@@ -41,8 +41,9 @@ use Rattle.rt_model.proofs.Links.{slots_there, requeued-owner, link_lock, link-l
 use Rattle.rt_model.proofs.Numbers.{number_itself, at_each_lock}
 use Rattle.rt_model.proofs.PartsAfter.{OthersKeep, SlotsThere, lock-kept, lock-made, task-keeps, other-keeps, slots-made}
 use Rattle.rt_model.proofs.Queues.{All-insert_row, none_of, own-row, top-at, not_top, top-first, find-top, queued_after, unchanged-waiter}
-use Rattle.rt_model.proofs.TaskStates.{HasStates, can_sleep, IsRunning, running-own, running-others, AreRested, rested-states, rested-own, rested-others, lock_woken-runs, waits_as}
-use Rattle.rt_model.proofs.Waiters.{blocking, key_elsewhere, start-blocked, slow-blocked, slow-unqueued, wait-elsewhere, take-elsewhere, IsLink, walk-link}
+use Rattle.rt_model.proofs.Reading.{reading-locks}
+use Rattle.rt_model.proofs.TaskStates.{HasStates, can_sleep, IsRunning, running-own, running-others, AreRested, rested-states, rested-own, rested-others, lock_woken-runs, waits_as, reading-unblocked}
+use Rattle.rt_model.proofs.Waiters.{blocking, key_elsewhere, start-blocked, slow-blocked, slow-unqueued, wait-elsewhere, take-elsewhere, queued-awake, IsLink, walk-link}
 use Rattle.rt_model.proofs.Within.{rows_within}
 use Rattle.rt_model.proofs.graph.Standing.{lock-blocked}
 
@@ -130,7 +131,7 @@ module _ (s : State) (made : ℕ) (t : TaskId) (e : Event) (lawful : IsLawful s 
       (others_awake l (λ row none top. not_top t (kind_of (thread_part s t) l) (owner_part s l) (task_part s t) row is.cannot none top)) (λ there. unqueued_awake m (wait-elsewhere s made t lawful l m is.at there))
 
   -- a task that an event x wakes, by the kind for which it waits, runs afterwards, whatever else becomes of it
-  woken-runs : (x : Event) (v : TaskId) (spinning : Bool) → e ≡ x → can_sleep x.kind ≡ false → SlotsThere (touched x.kind x) (length s.tasks) → (touched x.kind x).woken ≡ Some v
+  pub woken-runs : (x : Event) (v : TaskId) (spinning : Bool) → e ≡ x → can_sleep x.kind ≡ false → SlotsThere (touched x.kind x) (length s.tasks) → (touched x.kind x).woken ≡ Some v
       → ((lock : OwnerPart) (task : TaskPart) → (effect_in (shared s) (thread_part s x.task) x).woken lock task ≡ lock_woken spinning task) → waits_spinning (thread_part s v) (task_part s v) ≡ spinning
       → HasStates IsRunning (task_part (state_after s e) v)
   woken-runs x v spinning is awake there named wakes waits =
@@ -163,15 +164,15 @@ module _ (s : State) (made : ℕ) (t : TaskId) (e : Event) (lawful : IsLawful s 
 
   -- the kind for which a row's task waits is the lock's, as the event's own thread knows it
   row-waits : (l : LockId) (row : Row) → t.0 < length s.threads → IsBlockedThere s l row → waits_spinning (thread_part s (task_of row)) (task_part s (task_of row)) ≡ spins (kind_of (thread_part s t) l)
-  row-waits l row lt is = waits_as s (task_of row) t l lawful.shape is.task lt is.blocked
+  row-waits l row lt is = waits_as s (task_of row) t l lawful.shape is.task lt is.blocked (queued-awake s (task_of row) l lawful.queued is.blocked)
 
   -- so the top waiter of a lock that is given up
   give-here : (l : LockId) → IsGive s t l e → (row : Row) → top_waiter (owner_part s l).rows ≡ Some row → Runs (state_after s e) row
   give-here l is row top =
       woken-runs _ (task_of row) (spins (kind_of (thread_part s t) l)) is.event refl
-      (slots_there s (give_event t l (owner_part s l) (task_part s t)) lawful.shape tt tt (top_within (length s.threads) (owner_part s l).rows (rows_within s l lawful.shape is.at.lock)))
+      (slots_there s (give_event (call_of (thread_part s t)) t l (owner_part s l) (task_part s t)) lawful.shape tt tt (top_within (length s.threads) (owner_part s l).rows (rows_within s l lawful.shape is.at.lock)))
       (ap (option_map task_of) top) (λ lock task. refl)
-      (row-waits l row is.at.at.task (top-at (IsBlockedThere s l) (owner_part s l).rows row (rows-blocked s made l lawful is.at.lock) top))
+      (row-waits l row is.at.task (top-at (IsBlockedThere s l) (owner_part s l).rows row (rows-blocked s made l lawful is.at.lock) top))
 
   -- and one that a link of a walk makes the top waiter; else that is who it was
   walk-here : (route : Route) (u : TaskId) (l : LockId) (key : ℕ) (is : IsWalk s t route u l key e) → HasAwakeTop (state_after s e) (link_lock s made t route u l key e lawful is)
@@ -241,6 +242,7 @@ AwakeTopLaw-next s made t e lawful next m = by_kind next
     by_kind (by_acquire l (is_take is)) =
         lock-made Awake s e _ l m is.event refl is.lock (λ none. absurd cc) (λ there. unqueued_awake s made t e lawful own m (take-elsewhere s made t lawful l m is.how there))
     by_kind (by_acquire l (is_busy is)) = kept _ is.event refl (λ lock was. was)
+    by_kind (by_reading l is) = subst (Awake m) (sym (reading-locks s t l e is m)) (unblocked_awake s made t e lawful own m (reading-unblocked s made t l e lawful is))
     by_kind (by_walk route u (is_walkend is)) = kept _ is.event refl (λ lock was. was)
     by_kind (by_wakeup (is_state state is)) = lock-kept (Awake m) s e _ m is.event (unblocked_awake s made t e lawful own m (start-blocked s made t lawful _ is.at)) (λ lock was. was)
     by_kind (by_wakeup (is_sched is)) = kept _ is.event refl (λ lock was. was)

@@ -14,8 +14,9 @@ use Rattle.rt_model.specs.declared.row.Row.{Row}
 use Rattle.rt_model.specs.Parts.{OwnerPart, TaskPart, ThreadPart, call_of, effective_of, kind_of, kind_named}
 use Rattle.rt_model.specs.Rows.{top_key, top_changed, without}
 use Rattle.rt_model.specs.State.{State, shared, owner_part, task_part, thread_part}
-use Rattle.rt_model.specs.steps.Task.{with_top, refreshed, rest_of, blocked_on, leave_queue, interrupted, woken_by, lock_woken}
+use Rattle.rt_model.specs.steps.Task.{with_top, refreshed, rest_of, blocked_on, restored, leave_queue, interrupted, woken_by, lock_woken}
 use Rattle.rt_model.specs.steps.Lock.{left_by, taken_by, queued}
+use Rattle.rt_model.specs.events.Readers.{writer_rests}
 use Rattle.rt_model.specs.steps.Chain.{requeued_where_old, refreshed_where_changed}
 use Rattle.rt_model.specs.Effect.{Around}
 use Rattle.rt_model.specs.Rules.{touched, effect}
@@ -23,20 +24,22 @@ use Rattle.rt_model.specs.StateAfter.{effect_in, state_after}
 use Rattle.rt_model.specs.laws.Lawful.{IsLawful}
 use Rattle.rt_model.specs.laws.KeptTops.{KeptTopsLaw, kept_of}
 use Rattle.rt_model.specs.laws.Owners.{owned_by}
-use Rattle.rt_model.proofs.CellStepLemmas.{leave_queue-like, interrupted-like, woken_by-like, lock_woken-like, blocked_on-like, where_changed}
-use Rattle.rt_model.proofs.NextEvents.{IsNext, by_own, by_acquire, by_wait, by_release, by_walk, by_confirm, by_wakeup, by_setprio}
+use Rattle.rt_model.proofs.CellStepLemmas.{restored-like, leave_queue-like, interrupted-like, woken_by-like, lock_woken-like, blocked_on-like, writer_rests-like, where_changed}
+use Rattle.rt_model.proofs.NextEvents.{IsNext, by_own, by_acquire, by_wait, by_release, by_reading, by_walk, by_confirm, by_wakeup, by_setprio}
 use Rattle.rt_model.proofs.events.Acquire.{IsTake, is_fast, is_mark, is_take, is_busy}
 use Rattle.rt_model.proofs.events.Wait.{IsWait, is_wait, is_again, is_leave}
 use Rattle.rt_model.proofs.events.Release.{IsGive, is_free, is_give}
 use Rattle.rt_model.proofs.events.Walk.{IsWalk, is_walk, is_walkend, is_restart, is_cycle}
 use Rattle.rt_model.proofs.Calling.{asks-lock}
 use Rattle.rt_model.proofs.Calm.{wakeup-kind, wakeup-locks}
+use Rattle.rt_model.proofs.Inside.{returns-owned}
 use Rattle.rt_model.proofs.Leaves.{IsLeft, left_made, left-is, leave-left, cycle-left, left-unowned, left-lock_there, left-locks, left-own_like, left-others}
 use Rattle.rt_model.proofs.Links.{requeued-owner, link_refreshed, link-like}
 use Rattle.rt_model.proofs.PartsAfter.{read-set_same, read-set_other, OthersKeep, lock-made, lock-kept, task-keeps, own-made, owner-made}
 use Rattle.rt_model.proofs.Within.{owner_within, owner_room, kept_room, task_room}
 use Rattle.rt_model.proofs.Numbers.{at_each_task, one_owner, owner-holds, number_itself}
 use Rattle.rt_model.proofs.Queues.{unowned-can_take, unchanged-key}
+use Rattle.rt_model.proofs.Reading.{reading-kind, reading-locks}
 use Rattle.rt_model.proofs.Waiters.{walk-link}
 
 -- ---- what is kept of one lock
@@ -84,6 +87,10 @@ there-own m top kinds.Leave e th ne found lock task was =
     let spinning : Bool = spins (kind_named th e.lock) in kept-same m task (interrupted spinning task) (interrupted-like spinning task).kept ∙ was
 there-own m top kinds.Cycle e th ne found lock task was =
     let spinning : Bool = spins (kind_named th e.lock) in kept-same m task (leave_queue spinning task) (leave_queue-like spinning task).kept ∙ was
+there-own m top kinds.WTake e th ne found lock task was =
+    let spinning : Bool = spins (kind_named th e.lock) in kept-same m task (restored spinning task) (restored-like spinning task).kept ∙ was
+there-own m top kinds.WSleep e th ne found lock task was =
+    let rest = rest_of (kind_named th e.lock) (call_of th) in kept-same m task (writer_rests th.phase rest task) (writer_rests-like th.phase rest task).kept ∙ was
 there-own m top kinds.Give e th ne found lock task was = with_top-there e.lock m None task ne ∙ was
 there-own m top _ e th ne found lock task was = was
 
@@ -100,6 +107,9 @@ there-others m top kinds.Walk e th ne found lock =
       other = λ task was. was;
       woken = λ task was. kept-same m task (lock_woken spinning task) (lock_woken-like spinning task).like.kept ∙ was;
     }
+there-others m top kinds.WWake e th ne found lock =
+    let spinning : Bool = spins (kind_named th e.lock) in
+    record { owner = λ task was. was; other = λ task was. was; woken = λ task was. kept-same m task (lock_woken spinning task) (lock_woken-like spinning task).like.kept ∙ was }
 there-others m top kinds.Give e th ne found lock =
     let spinning : Bool = spins (kind_named th e.lock) in
     record { owner = λ task was. was; other = λ task was. was; woken = λ task was. kept-same m task (lock_woken spinning task) (lock_woken-like spinning task).like.kept ∙ was }
@@ -207,10 +217,10 @@ module _ (s : State) (made : ℕ) (t : TaskId) (e : Event) (u : TaskId) (lawful 
   give-here : (l : LockId) → IsGive s t l e → kept_of (task_part (state_after s e) u) l ≡ None
   give-here l is =
       let spinning : Bool = spins (kind_of (thread_part s t) l) in
-      own-made (λ v task. kept_of task l ≡ None) s e _ t u is.event refl (task_room s t lawful.shape is.at.at.task)
+      own-made (λ v task. kept_of task l ≡ None) s e _ t u is.event refl (task_room s t lawful.shape is.at.task)
       (record { owner = λ task was. was; other = λ task was. was; woken = λ task was. kept-same l task (lock_woken spinning task) (lock_woken-like spinning task).like.kept ∙ was })
-      (with_top-here l None (task_part s t) (kept_room s t l lawful.shape is.at.at.task is.at.lock))
-      (λ others. lawful.kept l u ∙ cond-false (owned_by (owner_part s l).owner u) (top_key (owner_part s l).rows) None (one_owner (owner_part s l).owner t u (sym (lawful.owners l t) ∙ is.held) others))
+      (with_top-here l None (task_part s t) (kept_room s t l lawful.shape is.at.task is.at.lock))
+      (λ others. lawful.kept l u ∙ cond-false (owned_by (owner_part s l).owner u) (top_key (owner_part s l).rows) None (one_owner (owner_part s l).owner t u (returns-owned s t l lawful.owners is.at) others))
 
 -- kept-tops law
 pub KeptTopsLaw-next : (s : State) (made : ℕ) (t : TaskId) (e : Event) → IsLawful s made → IsNext s t e → KeptTopsLaw (state_after s e)
@@ -234,6 +244,9 @@ KeptTopsLaw-next s made t e lawful next m u = by_kind next
     by_kind (by_wakeup is) =
         let apart : IsApartFrom m (tops_of e.kind e) = wakeup-kind (λ kind. IsApartFrom m (tops_of kind e)) s t e is tt tt tt in
         subst Keeps (sym (wakeup-locks s t e is m)) (same s made t e u lawful e m refl apart)
+    by_kind (by_reading l is) =
+        let apart : IsApartFrom m (tops_of e.kind e) = reading-kind (λ kind. IsApartFrom m (tops_of kind e)) s t l e is (record { rin = tt; busy = tt; rout = tt; wwake = tt; unbias = tt; wtake = tt; wsleep = tt; wopen = tt }) in
+        subst Keeps (sym (reading-locks s t l e is m)) (same s made t e u lawful e m refl apart)
     by_kind (by_setprio target prio is) = lock-kept Keeps s e _ m is.event (same s made t e u lawful _ m is.event tt) (λ lock was. was)
     by_kind (by_wait l (is_leave is)) = left l (leave-left s t l e is)
     by_kind (by_confirm l path (is_cycle is)) = left l (cycle-left s made t l path e lawful is)

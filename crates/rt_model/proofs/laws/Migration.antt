@@ -1,14 +1,16 @@
 -- A next event keeps the migration law.
-use Rattle.std.proofs.Common.{◌≡◌, inl, inr, ℕ, ◌+◌, ◌-◌, ◌<◌, ◌≤◌, Bool, true, false, cond, length, refl, sym, ap, ◌∙◌, subst, arith, Option, Some, None, All, IfSome}
-use Rattle.std.specs.Prelude.{slice_get}
-use Rattle.std.proofs.lemmas.Bool.{cond_both}
+use Rattle.std.proofs.Common.{◌≡◌, ◌⊎◌, inl, inr, ℕ, ◌+◌, ◌-◌, ◌*◌, ◌<◌, ◌≤◌, Bool, true, false, cond, ◌&&◌, ◌||◌, get_or, length, refl, sym, ap, ◌∙◌, subst, arith, Option, Some, None, All, IfSome, unwrap_or}
+use Rattle.std.specs.Prelude.{slice_get, slice_set, nat_lt, option_map}
+use Rattle.std.proofs.lemmas.Bool.Decides.{nat_tests}
+use Rattle.std.proofs.lemmas.List.Sums.{get_or-le-sum_by, sum-map}
 use Rattle.std.proofs.lemmas.Option.{slice_get_within}
 use Rattle.rt_base.specs.declared.call.Call.{Call}
 use Rattle.rt_base.specs.declared.call.Call.TheVariants as calls
 use Rattle.rt_base.specs.declared.id.LockId.{LockId}
 use Rattle.rt_base.specs.declared.id.TaskId.{TaskId}
 use Rattle.rt_base.specs.declared.kind.Kind.{Kind}
-use Rattle.rt_base.specs.declared.kind.Kind.TheVariants.{Mutex, Spin}
+use Rattle.rt_base.specs.declared.kind.Kind.TheVariants.{Mutex, Spin, RwLock, RwSem, Local}
+use Rattle.rt_base.specs.declared.limits.TheConstants.{MAX_LOCKS, MAX_CALLS}
 use Rattle.rt_base.specs.declared.reply.Reply.{Reply}
 use Rattle.rt_base.specs.declared.reply.Reply.TheVariants as replies
 use Rattle.rt_model.specs.declared.event.Event.{Event}
@@ -17,26 +19,33 @@ use Rattle.rt_model.specs.declared.phase.Phase.{Phase}
 use Rattle.rt_model.specs.declared.phase.Phase.TheVariants as phases
 use Rattle.rt_model.specs.declared.phase.Route.{Route}
 use Rattle.rt_model.specs.declared.phase.Route.TheVariants.{Short}
-use Rattle.rt_model.specs.Parts.{ThreadPart, call_of, hold_of, kind_of, count_holds}
-use Rattle.rt_model.specs.State.{State, shared, owner_part, task_part, thread_part}
+use Rattle.rt_model.specs.Parts.{ThreadPart, call_of, hold_of, kind_of, has_readers, count_holds}
+use Rattle.rt_model.specs.Choice.{called_lock, present_lock, is_on}
+use Rattle.rt_model.specs.State.{State, shared, owner_part, reader_part, task_part, thread_part}
 use Rattle.rt_model.specs.Rules.{touched}
 use Rattle.rt_model.specs.Effect.{around}
-use Rattle.rt_model.specs.steps.Thread.{with_hold, holds_after, migration_after, answered_with}
+use Rattle.rt_model.specs.steps.Readers.{wakes_writer, without_reader}
+use Rattle.rt_model.specs.steps.Thread.{got_answer, released_answer, with_hold, with_read, without_read, downgraded, holds_after, pinned_by, unpinned_by, migration_after, answered_with}
 use Rattle.rt_model.specs.steps.Chain.{answer_of_walk}
-use Rattle.rt_model.specs.events.Own.{own_answer}
+use Rattle.rt_model.specs.events.Own.{if_held, private_answer, own_answer}
 use Rattle.rt_model.specs.StateAfter.{shared_after, thread_after, state_after}
-use Rattle.rt_model.specs.Stage.{IsForKind, IsStaged, IsToCome}
+use Rattle.rt_model.specs.Stage.{HasReadersAt, IsForKind, IsStaged, IsToCome}
 use Rattle.rt_model.specs.laws.Lawful.{IsLawful}
+use Rattle.rt_model.specs.laws.Shape.{calls_of}
 use Rattle.rt_model.specs.laws.Migration.{pins, pinned, MigrationLaw}
+use Rattle.rt_model.specs.laws.Owners.{has_inner, is_inside, gives_back, OwnersLaw}
+use Rattle.rt_model.specs.laws.Readers.{has_gone, going}
 use Rattle.rt_model.proofs.Lists.{All-at, All-default}
 use Rattle.rt_model.proofs.Holds.{count-set, count-most, read-some}
-use Rattle.rt_model.proofs.Calling.{at_call, IsIn, Asks, waits-holds, Tries, tries-holds, Returns, releases-holds}
-use Rattle.rt_model.proofs.Numbers.{nobodys}
-use Rattle.rt_model.proofs.NextEvents.{IsNext, by_own, by_acquire, by_wait, by_release, by_walk, by_confirm, by_wakeup, by_setprio, task-IsNext}
+use Rattle.rt_model.proofs.Calling.{at_call, IsIn, Asks, waits-holds, Tries, tries-holds, Returns, ReturnsBy, from_hold, from_inside, releases-holds, ends-holds, Writes, writes_by, writes-holds}
+use Rattle.rt_model.proofs.Inside.{present-at, inside-at}
+use Rattle.rt_model.proofs.Numbers.{number_itself, nobodys}
+use Rattle.rt_model.proofs.NextEvents.{IsNext, by_own, by_acquire, by_wait, by_release, by_reading, by_walk, by_confirm, by_wakeup, by_setprio, task-IsNext}
 use Rattle.rt_model.proofs.ToCome.{to_come-holds, answered-holds}
-use Rattle.rt_model.proofs.events.Acquire.{is_fast, is_mark, is_take, is_busy, IsAcquireOf, IsAcquiring, fast-acquiring, take-acquiring}
+use Rattle.rt_model.proofs.events.Acquire.{is_fast, is_mark, is_take, is_busy, asking, IsAcquiring, fast-acquiring, take-acquiring, acquiring-holds}
 use Rattle.rt_model.proofs.events.Wait.{is_wait, is_again, is_leave}
 use Rattle.rt_model.proofs.events.Release.{is_free, is_give}
+use Rattle.rt_model.proofs.events.Readers.{IsReading, is_read, is_tryread, is_let_in, is_shut, is_tryshut, is_out, is_wwake, is_unbias, is_in, is_sleep, is_given_up, is_in_late, is_sleep_again, is_opened, is_downgraded}
 use Rattle.rt_model.proofs.events.Walk.{WalksIn, by_full, by_short, is_walk, is_walkend, is_restart, is_cycle}
 use Rattle.rt_model.proofs.events.Wakeups.{is_state, is_sched, is_wake, is_signal}
 use Rattle.rt_model.proofs.PartsAfter.{thread-phase, thread-made}
@@ -46,52 +55,120 @@ use Rattle.rt_model.proofs.laws.Owners.{held_never_got, never_done}
 
 -- ---- an answer
 
--- what holds count is no more than the number of locks
-pub few-pinned : (thread : ThreadPart) → pinned thread ≤ length thread.kinds
-few-pinned thread = count-most pins one-most thread.kinds thread.holds
-  where
-    one-most : (kind : Kind) (hold : Hold) → pins kind hold ≤ 1
-    one-most Spin hold = cond_both hold.owns 1 0 (λ (n : ℕ). n ≤ 1) (λ is. omega arith) (λ is. omega arith)
-    one-most _ hold = omega arith
-
--- a spinlock that a thread gets it didn't hold, and one that it has released it held
+-- a spinlock that a thread gets, or a lock that it gets for writing, it didn't hold so, and what it has released it held; so did one
+-- that downgrades
 abbrev pub Counted : ThreadPart → Call → Reply → Type 0
 Counted thread (calls.Spin l) replies.Got = (hold_of thread l).owns ≡ false
 Counted thread (calls.TrySpin l) replies.Got = (hold_of thread l).owns ≡ false
 Counted thread (calls.Unspin l) replies.Done = (hold_of thread l).owns ≡ true
+Counted thread (calls.Unread l) replies.Done = 0 < (hold_of thread l).reads
+Counted thread (calls.Write l) replies.Got = (hold_of thread l).owns ≡ false
+Counted thread (calls.TryWrite l) replies.Got = (hold_of thread l).owns ≡ false
+Counted thread (calls.Unwrite l) replies.Done = (hold_of thread l).owns ≡ true
+Counted thread (calls.Downgrade l) replies.Done = (hold_of thread l).owns ≡ true
 Counted thread call answer = Unit {0}
+
+-- a reader/writer lock is of one of two kinds
+pub reader_kind : (kind : Option Kind) → option_map has_readers kind ≡ Some true → (kind ≡ Some RwLock) ⊎ (kind ≡ Some RwSem)
+reader_kind None is = cc
+reader_kind (Some Mutex) is = cc
+reader_kind (Some Spin) is = cc
+reader_kind (Some RwLock) is = inl refl
+reader_kind (Some RwSem) is = inr refl
+reader_kind (Some Local) is = cc
+
+-- what isn't held counts nothing
+pub unpinned : (kind : Kind) → pins kind (record { owns = false; reads = 0 }) ≡ 0
+unpinned Spin = refl
+unpinned RwLock = refl
+unpinned _ = refl
 
 module _ (thread : ThreadPart) (long : length thread.holds ≡ length thread.kinds) where
   -- the hold of a lock of this kind is written
-  pinned-set : (l : LockId) (kind : Kind) (owns : Bool) → slice_get thread.kinds l.0 ≡ Some kind
-      → count_holds pins thread.kinds (with_hold thread l owns) + pins kind (hold_of thread l) ≡ pinned thread + pins kind (record (hold_of thread l) { owns = owns })
-  pinned-set l kind owns is =
+  pinned-set : (l : LockId) (kind : Kind) (left : Hold) → slice_get thread.kinds l.0 ≡ Some kind
+      → count_holds pins thread.kinds (slice_set thread.holds l.0 left) + pins kind (hold_of thread l) ≡ pinned thread + pins kind left
+  pinned-set l kind left is =
       let room : l.0 < length thread.holds = subst (λ (n : ℕ). l.0 < n) (sym long) (slice_get_within thread.kinds l.0 kind is) in
-      count-set pins thread.kinds thread.holds l.0 kind (hold_of thread l) (record (hold_of thread l) { owns = owns }) is (read-some thread.holds l.0 (record { owns = false; reads = 0 }) room)
+      count-set pins thread.kinds thread.holds l.0 kind (hold_of thread l) left is (read-some thread.holds l.0 (record { owns = false; reads = 0 }) room)
+
+  -- so a hold counts no more than all
+  pub hold-counts : (l : LockId) (kind : Kind) → slice_get thread.kinds l.0 ≡ Some kind → thread.migration ≡ pinned thread → pins kind (hold_of thread l) ≤ thread.migration
+  hold-counts l kind is law =
+      let none : pins kind (record { owns = false; reads = 0 }) ≡ 0 = unpinned kind in
+      omega (arith, pinned-set l kind (record { owns = false; reads = 0 }) is, none, law)
 
   -- a mutex counts nothing, and a spinlock one
   mutex-set : (l : LockId) (owns : Bool) → slice_get thread.kinds l.0 ≡ Some Mutex → thread.migration ≡ pinned thread → thread.migration ≡ count_holds pins thread.kinds (with_hold thread l owns)
-  mutex-set l owns is law = omega (arith, pinned-set l Mutex owns is, law)
+  mutex-set l owns is law = omega (arith, pinned-set l Mutex (record (hold_of thread l) { owns = owns }) is, law)
 
   spin-got : (l : LockId) → slice_get thread.kinds l.0 ≡ Some Spin → (hold_of thread l).owns ≡ false → thread.migration ≡ pinned thread → thread.migration + 1 ≡ count_holds pins thread.kinds (with_hold thread l true)
   spin-got l is unheld law =
       let none : pins Spin (hold_of thread l) ≡ 0 = ap (λ (b : Bool). cond b 1 0) unheld in
-      omega (arith, pinned-set l Spin true is, none, law)
+      omega (arith, pinned-set l Spin (record (hold_of thread l) { owns = true }) is, none, law)
 
   spin-left : (l : LockId) → slice_get thread.kinds l.0 ≡ Some Spin → (hold_of thread l).owns ≡ true → thread.migration ≡ pinned thread → thread.migration - 1 ≡ count_holds pins thread.kinds (with_hold thread l false)
   spin-left l is held law =
       let one : pins Spin (hold_of thread l) ≡ 1 = ap (λ (b : Bool). cond b 1 0) held in
-      omega (arith, pinned-set l Spin false is, one, law)
+      omega (arith, pinned-set l Spin (record (hold_of thread l) { owns = false }) is, one, law)
 
   -- it counts one as long as it is held
   pub spin-counts : (l : LockId) → slice_get thread.kinds l.0 ≡ Some Spin → (hold_of thread l).owns ≡ true → thread.migration ≡ pinned thread → 0 < thread.migration
   spin-counts l is held law =
       let one : pins Spin (hold_of thread l) ≡ 1 = ap (λ (b : Bool). cond b 1 0) held in
-      omega (arith, pinned-set l Spin false is, one, law)
+      omega (arith, hold-counts l Spin is law, one)
+
+  -- and an `rwlock_t` as long as it is held for writing or for reading
+  pub rwlock-counts : (l : LockId) → slice_get thread.kinds l.0 ≡ Some RwLock → ((hold_of thread l).owns ≡ true) ⊎ (0 < (hold_of thread l).reads) → thread.migration ≡ pinned thread → 0 < thread.migration
+  rwlock-counts l is held law = by_hold held
+    where
+      all : pins RwLock (hold_of thread l) ≤ thread.migration
+      all = hold-counts l RwLock is law
+
+      by_hold : ((hold_of thread l).owns ≡ true) ⊎ (0 < (hold_of thread l).reads) → 0 < thread.migration
+      by_hold (inl owns) = let one : pins Spin (hold_of thread l) ≡ 1 = ap (λ (b : Bool). cond b 1 0) owns in omega (arith, all, one)
+      by_hold (inr reads) = omega (arith, all, reads)
+
+  -- the hold of a reader/writer lock is written: an `rw_semaphore` counts nothing, and an `rwlock_t` what its hold counts
+  reader-set : (l : LockId) (left : Hold) (counts : Kind → ℕ → ℕ) → HasReadersAt thread.kinds l.0 → counts RwSem thread.migration ≡ thread.migration
+      → ((count : ℕ) → count + pins RwLock (hold_of thread l) ≡ thread.migration + pins RwLock left → counts RwLock thread.migration ≡ count) → thread.migration ≡ pinned thread
+      → counts (kind_of thread l) thread.migration ≡ count_holds pins thread.kinds (slice_set thread.holds l.0 left)
+  reader-set l left counts fits rwsem rwlock law = by_kind (reader_kind (slice_get thread.kinds l.0) fits)
+    where
+      after : ℕ
+      after = count_holds pins thread.kinds (slice_set thread.holds l.0 left)
+
+      at : (kind : Kind) → slice_get thread.kinds l.0 ≡ Some kind → counts kind thread.migration ≡ after → counts (kind_of thread l) thread.migration ≡ after
+      at kind is right = ap (λ (k : Option Kind). counts (unwrap_or k Mutex) thread.migration) is ∙ right
+
+      by_kind : (slice_get thread.kinds l.0 ≡ Some RwLock) ⊎ (slice_get thread.kinds l.0 ≡ Some RwSem) → counts (kind_of thread l) thread.migration ≡ after
+      by_kind (inl is) = at RwLock is (rwlock after (omega (arith, pinned-set l RwLock left is, law)))
+      by_kind (inr is) = at RwSem is (omega (arith, rwsem, pinned-set l RwSem left is, law))
+
+  read-got : (l : LockId) → HasReadersAt thread.kinds l.0 → thread.migration ≡ pinned thread → pinned_by (kind_of thread l) thread.migration ≡ count_holds pins thread.kinds (with_read thread l)
+  read-got l fits law = reader-set l (record (hold_of thread l) { reads = (hold_of thread l).reads + 1 }) pinned_by fits refl (λ count is. omega (arith, is)) law
+
+  read-left : (l : LockId) → HasReadersAt thread.kinds l.0 → 0 < (hold_of thread l).reads → thread.migration ≡ pinned thread → unpinned_by (kind_of thread l) thread.migration ≡ count_holds pins thread.kinds (without_read thread l)
+  read-left l fits held law = reader-set l (record (hold_of thread l) { reads = (hold_of thread l).reads - 1 }) unpinned_by fits refl (λ count is. omega (arith, is, held)) law
+
+  write-got : (l : LockId) → HasReadersAt thread.kinds l.0 → (hold_of thread l).owns ≡ false → thread.migration ≡ pinned thread → pinned_by (kind_of thread l) thread.migration ≡ count_holds pins thread.kinds (with_hold thread l true)
+  write-got l fits unheld law =
+      let none : pins Spin (hold_of thread l) ≡ 0 = ap (λ (b : Bool). cond b 1 0) unheld in
+      reader-set l (record (hold_of thread l) { owns = true }) pinned_by fits refl (λ count is. omega (arith, is, none)) law
+
+  write-left : (l : LockId) → HasReadersAt thread.kinds l.0 → (hold_of thread l).owns ≡ true → thread.migration ≡ pinned thread → unpinned_by (kind_of thread l) thread.migration ≡ count_holds pins thread.kinds (with_hold thread l false)
+  write-left l fits held law =
+      let one : pins Spin (hold_of thread l) ≡ 1 = ap (λ (b : Bool). cond b 1 0) held in
+      reader-set l (record (hold_of thread l) { owns = false }) unpinned_by fits refl (λ count is. omega (arith, is, one)) law
+
+  -- a downgrade has a read hold in the place of its write hold
+  downgrade-left : (l : LockId) → HasReadersAt thread.kinds l.0 → (hold_of thread l).owns ≡ true → thread.migration ≡ pinned thread → thread.migration ≡ count_holds pins thread.kinds (downgraded thread l)
+  downgrade-left l fits held law =
+      let one : pins Spin (hold_of thread l) ≡ 1 = ap (λ (b : Bool). cond b 1 0) held in
+      reader-set l (record { owns = false; reads = (hold_of thread l).reads + 1 }) (λ kind count. count) fits refl (λ count is. omega (arith, is, one)) law
 
   -- so after any answer the count is right
   answer-counts : (call : Call) (answer : Reply) → IsForKind thread.kinds call → Counted thread call answer → thread.migration ≡ pinned thread
-      → migration_after thread.migration (Some call) answer ≡ count_holds pins thread.kinds (holds_after thread (Some call) answer)
+      → migration_after thread (Some call) answer ≡ count_holds pins thread.kinds (holds_after thread (Some call) answer)
   answer-counts (calls.Lock l) replies.Got fits counted law = mutex-set l true fits law
   answer-counts (calls.LockInt l) replies.Got fits counted law = mutex-set l true fits law
   answer-counts (calls.TryLock l) replies.Got fits counted law = mutex-set l true fits law
@@ -99,6 +176,13 @@ module _ (thread : ThreadPart) (long : length thread.holds ≡ length thread.kin
   answer-counts (calls.Spin l) replies.Got fits counted law = spin-got l fits counted law
   answer-counts (calls.TrySpin l) replies.Got fits counted law = spin-got l fits counted law
   answer-counts (calls.Unspin l) replies.Done fits counted law = spin-left l fits counted law
+  answer-counts (calls.Read l) replies.Got fits counted law = read-got l fits law
+  answer-counts (calls.TryRead l) replies.Got fits counted law = read-got l fits law
+  answer-counts (calls.Unread l) replies.Done fits counted law = read-left l fits counted law
+  answer-counts (calls.Write l) replies.Got fits counted law = write-got l fits counted law
+  answer-counts (calls.TryWrite l) replies.Got fits counted law = write-got l fits counted law
+  answer-counts (calls.Unwrite l) replies.Done fits counted law = write-left l fits counted law
+  answer-counts (calls.Downgrade l) replies.Done fits counted law = downgrade-left l fits counted law
   answer-counts _ _ fits counted law = law
 
 -- an event's answer, where it has one
@@ -106,7 +190,7 @@ replied : (thread : ThreadPart) (call : Call) (reply : Option Reply) → length 
     → thread.migration ≡ pinned thread → (answered_with thread reply).migration ≡ pinned (answered_with thread reply)
 replied thread call None long calling fits counted law = law
 replied thread call (Some answer) long calling fits counted law =
-    subst (λ (c : Option Call). migration_after thread.migration c answer ≡ count_holds pins thread.kinds (holds_after thread c answer)) (sym calling) (answer-counts thread long call answer fits counted law)
+    subst (λ (c : Option Call). migration_after thread c answer ≡ count_holds pins thread.kinds (holds_after thread c answer)) (sym calling) (answer-counts thread long call answer fits counted law)
 
 -- ---- what a state says of a thread
 
@@ -131,11 +215,25 @@ pub record IsCounted (s : State) (t : TaskId) (reply : Option Reply) : Type 0 wh
   pub calling : call_of (thread_part s t) ≡ Some call
   pub counted : IfSome reply (Counted (thread_part s t) call)
 
+-- a write isn't answered got at once
+write_never_got : (l : LockId) (kind : Option Kind) (nested : ℕ) (held : Bool) (migration : ℕ) → private_answer (calls.Write l) kind nested held migration ≡ Some replies.Got → ⊥
+write_never_got l (Some RwSem) nested held migration is = by_test (nat_lt 0 nested) is
+  where
+    by_test : (b : Bool) → cond b (Some replies.Nesting) (if_held held) ≡ Some replies.Got → ⊥
+    by_test true is = cc
+    by_test false is = held_never_got held is
+write_never_got l _ nested held migration is = held_never_got held is
+
 -- what a thread answers at once changes no hold
 own-counted : (thread : ThreadPart) (call : Call) (answer : Reply) → own_answer thread call ≡ Some answer → Counted thread call answer
 own-counted thread (calls.Spin l) replies.Got is = absurd (held_never_got (hold_of thread l).owns is)
 own-counted thread (calls.TrySpin l) replies.Got is = cc
 own-counted thread (calls.Unspin l) replies.Done is = absurd (never_done (hold_of thread l).owns is)
+own-counted thread (calls.Unread l) replies.Done is = absurd (never_done (nat_lt 0 (hold_of thread l).reads) is)
+own-counted thread (calls.Write l) replies.Got is = absurd (write_never_got l (Some (kind_of thread l)) _ _ _ is)
+own-counted thread (calls.TryWrite l) replies.Got is = cc
+own-counted thread (calls.Unwrite l) replies.Done is = absurd (never_done (hold_of thread l).owns is)
+own-counted thread (calls.Downgrade l) replies.Done is = absurd (never_done (hold_of thread l).owns is)
 own-counted thread _ _ is = tt
 
 -- a walk's answer changes none
@@ -143,26 +241,49 @@ walk-counted : (thread : ThreadPart) (call : Call) (answer : Reply) (next : Opti
 walk-counted thread call answer next to_come =
     answered-holds (λ reply. IfSome reply (Counted thread call)) answer next (to_come-holds (λ c a. Counted thread c a) call answer to_come (λ l. tt) (λ l. tt) (λ l. tt) (λ l. tt) (λ l. tt) (λ l. tt) (λ u prio. tt)) tt
 
+neither : (a b : Bool) → (a || b) ≡ false → a ≡ false
+neither true b is = cc
+neither false b is = refl
+
 module _ (s : State) (t : TaskId) where
   -- a call that isn't answered yet, and one of which no answer counts
   unanswered : (phase : Phase) (call : Call) → IsIn s t phase call → IsCounted s t None
   unanswered phase call at = record { call = call; calling = at.calling; counted = tt }
 
-  -- a task gets a lock that it didn't hold
-  got : (l : LockId) → IsAcquiring s t l → (hold_of (thread_part s t) l).owns ≡ false → IsCounted s t (Some replies.Got)
-  got l at unheld = record { call = at.call; calling = at.calling; counted = by_call at.acquires }
-    where
-      by_call : IsAcquireOf l at.call → Counted (thread_part s t) at.call replies.Got
-      by_call (inl waits_for) = waits-holds (λ c. Counted (thread_part s t) c replies.Got) at.call l waits_for tt tt unheld
-      by_call (inr tries) = tries-holds (λ c. Counted (thread_part s t) c replies.Got) at.call l tries tt unheld
+  answered : (phase : Phase) (call : Call) (reply : Option Reply) → IsIn s t phase call → IfSome reply (Counted (thread_part s t) call) → IsCounted s t reply
+  answered phase call reply at counted = record { call = call; calling = at.calling; counted = counted }
+
+  -- a task gets the owner part of a lock that it didn't hold
+  got : (l : LockId) → IsAcquiring s t l → (hold_of (thread_part s t) l).owns ≡ false → IsCounted s t (got_answer (call_of (thread_part s t)))
+  got l at unheld = record {
+    call = at.call;
+    calling = at.calling;
+    counted = subst (λ (c : Option Call). IfSome (got_answer c) (Counted (thread_part s t) at.call)) (sym at.calling)
+        (acquiring-holds (λ c. IfSome (got_answer (Some c)) (Counted (thread_part s t) c)) at.call l at.acquires tt tt unheld tt unheld tt tt tt);
+  }
 
   -- it may not have it
   refused : (l : LockId) → Tries s t l → IsCounted s t (Some replies.Busy)
-  refused l at = record { call = at.call; calling = at.at.calling; counted = tries-holds (λ c. Counted (thread_part s t) c replies.Busy) at.call l at.tries_for tt tt }
+  refused l at = record { call = at.call; calling = at.at.calling; counted = tries-holds (λ c. Counted (thread_part s t) c replies.Busy) at.call l at.tries_for tt tt tt }
+
+  -- one that has an inner lock holds the lock, not for reading, where it gives that back
+  inside-owns : (phase : Phase) (call : Call) (l : LockId) → OwnersLaw s → IsIn s t phase call → has_inner phase ≡ true → called_lock (thread_part s t).cpu call ≡ Some l → (hold_of (thread_part s t) l).owns ≡ gives_back phase (Some call)
+  inside-owns phase call l owners at is about =
+      let here : is_inside (thread_part s t) l ≡ true = inside-at (thread_part s t) l l (ap has_inner at.phased ∙ is) (present-at s t phase call (Some l) at about) ∙ number_itself l.0 in
+      owners.inside l t here ∙ (λ i. gives_back (at.phased i) (at.calling i))
 
   -- it releases one that it held
-  done : (l : LockId) → Returns s t l → (hold_of (thread_part s t) l).owns ≡ true → IsCounted s t (Some replies.Done)
-  done l at held = record { call = at.call; calling = at.at.calling; counted = releases-holds (λ c. Counted (thread_part s t) c replies.Done) at.call l at.releases tt held }
+  done : (l : LockId) → OwnersLaw s → Returns s t l → IsCounted s t (Some (released_answer (call_of (thread_part s t))))
+  done l owners is = record { call = is.call; calling = is.calling; counted = subst (λ (c : Option Call). Counted (thread_part s t) is.call (released_answer c)) (sym is.calling) (by_how is.by) }
+    where
+      Released : Call → Type 0
+      Released c = Counted (thread_part s t) c (released_answer (Some c))
+
+      by_how : ReturnsBy s t l is.call → Released is.call
+      by_how (from_hold releases at held) = releases-holds Released is.call l releases tt held
+      by_how (from_inside ends at) =
+          let owns = inside-owns phases.Release is.call l owners at refl (ends-holds (λ c. called_lock (thread_part s t).cpu c ≡ Some l) is.call l ends refl refl refl refl) in
+          ends-holds (λ c. (hold_of (thread_part s t) l).owns ≡ gives_back phases.Release (Some c) → Released c) is.call l ends (λ g. tt) (λ g. tt) (λ g. g) (λ g. g) owns
 
   -- its walk goes on, or ends
   walked : (route : Route) (u : TaskId) (next : Option Phase) → WalksIn s t route u → IsCounted s t (answer_of_walk route next)
@@ -173,7 +294,7 @@ module _ (s : State) (t : TaskId) where
   -- it leaves a queue
   left : (phase : Phase) (l : LockId) (next : Option Phase) → Asks s t phase l → IsCounted s t (answer_of_walk (Short replies.Deadlock) next)
   left phase l next asks =
-      let to_come : IsToCome asks.call replies.Deadlock = waits-holds (λ c. IsToCome c replies.Deadlock) asks.call l asks.waits_for refl (inl refl) refl in
+      let to_come : IsToCome asks.call replies.Deadlock = waits-holds (λ c. IsToCome c replies.Deadlock) asks.call l asks.waits_for refl (inl refl) refl refl refl in
       record { call = asks.call; calling = asks.at.calling; counted = walk-counted (thread_part s t) asks.call replies.Deadlock next to_come }
 
   -- what an event that comes about as x is answered
@@ -185,21 +306,57 @@ module _ (s : State) (t : TaskId) where
     where
       -- nobody holds a lock that nobody owns
       unheld : (l : LockId) → (owner_part s l).owner ≡ None → (hold_of (thread_part s t) l).owns ≡ false
-      unheld l none = lawful.owners l t ∙ nobodys (owner_part s l).owner t none
+      unheld l none = neither (hold_of (thread_part s t) l).owns (is_inside (thread_part s t) l) (lawful.owners.owned l t ∙ nobodys (owner_part s l).owner t none)
+
+      -- a writer that gets in didn't hold the lock
+      written : (l : LockId) (phase : Phase) (call : Call) → Writes call l → IsIn s t phase call → has_inner phase ≡ true → gives_back phase (Some call) ≡ false → IsCounted s t (Some replies.Got)
+      written l phase call how at inner keeps =
+          let about = writes-holds (λ c. called_lock (thread_part s t).cpu c ≡ Some l) call l how refl refl in
+          let owns = inside-owns phase call l lawful.owners at inner about ∙ keeps in
+          answered phase call (Some replies.Got) at (writes-holds (λ c. Counted (thread_part s t) c replies.Got) call l how owns owns)
+
+      -- a reader that leaves was in, also the last one, that wakes the writer
+      left_in : (l : LockId) (wakes : Bool) → IsIn s t phases.Start (calls.Unread l) → nat_lt 0 (hold_of (thread_part s t) l).reads ≡ true → IsCounted s t (cond wakes None (Some replies.Done))
+      left_in l true at held = unanswered _ _ at
+      left_in l false at held = answered _ _ (Some replies.Done) at (grind (arith, nat_tests))
+
+      gone : (l : LockId) → IsIn s t phases.WakeWriter (calls.Unread l) → 0 < (hold_of (thread_part s t) l).reads
+      gone l at =
+          let on : is_on (present_lock (thread_part s t)) l ≡ true = ap (λ (o : Option LockId). is_on o l) (present-at s t phases.WakeWriter (calls.Unread l) (Some l) at refl) ∙ number_itself l.0 in
+          let one : going (thread_part s t) l ≡ 1 = λ i. cond (has_gone (at.phased i) && on i) 1 0 in
+          omega (arith, one, lawful.readers.gone l t)
+
+      reading : (l : LockId) → IsReading s t l e → IsCounted s t e.reply
+      reading l (is_read is unheld can) = told e _ is.event (answered _ _ (Some replies.Got) is.at tt)
+      reading l (is_tryread is set) = told e _ is.event (answered _ _ (Some replies.Got) is.at tt)
+      reading l (is_let_in is) = told e _ is.event (unanswered _ _ is.at)
+      reading l (is_shut is unheld cannot) = told e _ is.event (unanswered _ _ is.at)
+      reading l (is_tryshut is off) = told e _ is.event (answered _ _ (Some replies.Busy) is.at tt)
+      reading l (is_out is held) = told e _ is.event (left_in l (wakes_writer (without_reader (reader_part s l))) is.at held)
+      reading l (is_wwake is) = told e _ is.event (answered _ _ (Some replies.Done) is.at (gone l is.at))
+      reading l (is_unbias call how is) = told e _ is.event (unanswered _ _ is.at)
+      reading l (is_in call how is can) = told e _ is.event (written l phases.WTry call how is.at refl refl)
+      reading l (is_sleep is cannot) = told e _ is.event (unanswered _ _ is.at)
+      reading l (is_given_up is cannot) = told e _ is.event (unanswered _ _ is.at)
+      reading l (is_in_late is runs can) = told e _ is.event (written l phases.WWait (calls.Write l) (writes_by refl) is.at refl refl)
+      reading l (is_sleep_again is runs cannot) = told e _ is.event (unanswered _ _ is.at)
+      reading l (is_opened is held) = told e _ is.event (unanswered _ _ is.at)
+      reading l (is_downgraded is held) = told e _ is.event (unanswered _ _ is.at)
 
       by_kind : IsNext s t e → IsCounted s t e.reply
       by_kind (by_own call answer is) = told e _ is.event (record { call = call; calling = is.at.calling; counted = own-counted (thread_part s t) call answer is.why })
       by_kind (by_acquire l (is_fast is)) = told e _ is.event (got l (fast-acquiring s t l is.how) (unheld l is.owner))
-      by_kind (by_acquire l (is_mark is)) = told e _ is.event (unanswered phases.Start _ is.at.at)
+      by_kind (by_acquire l (is_mark is)) = let asks = asking s t l is.how in told e _ is.event (unanswered asks.0 _ asks.1.at)
       by_kind (by_acquire l (is_take is)) =
           told e _ is.event (got l (take-acquiring s t l is.how) (unheld l (unowned-can_take t (kind_of (thread_part s t) l) (owner_part s l) (task_part s t) is.can)))
       by_kind (by_acquire l (is_busy is)) = told e _ is.event (refused l is.at)
+      by_kind (by_reading l is) = reading l is
       by_kind (by_wait l (is_wait is)) = told e _ is.event (unanswered phases.Slow _ is.at.at)
       by_kind (by_wait l (is_again is)) = told e _ is.event (unanswered phases.Wait _ is.at.at)
       by_kind (by_wait l (is_leave is)) =
           told e _ is.event (record { call = calls.LockInt l; calling = is.at.calling; counted = walk-counted (thread_part s t) (calls.LockInt l) replies.Interrupted _ (inr refl) })
-      by_kind (by_release l (is_free is)) = told e _ is.event (done l is.at is.held)
-      by_kind (by_release l (is_give is)) = told e _ is.event (done l is.at is.held)
+      by_kind (by_release l (is_free is)) = told e _ is.event (done l lawful.owners is.at)
+      by_kind (by_release l (is_give is)) = told e _ is.event (done l lawful.owners is.at)
       by_kind (by_walk route u (is_walk l key is)) = told e _ is.event (walked route u _ is.how)
       by_kind (by_walk route u (is_walkend is)) = told e _ is.event (walked route u None is.how)
       by_kind (by_confirm l path (is_restart link is)) = told e _ is.event (unanswered _ _ is.at.at)
@@ -226,3 +383,43 @@ pub MigrationLaw-next : (s : State) (made : ℕ) (t : TaskId) (e : Event) → Is
 MigrationLaw-next s made t e lawful next u =
     let is : IsCounted s e.task e.reply = subst (λ (v : TaskId). IsCounted s v e.reply) (sym (task-IsNext s t e next)) (its_answer s t made e lawful next) in
     thread-made (λ v th. th.migration ≡ pinned th) s e e u refl (at_call s e.task is.call is.calling).1 (own-left s made e lawful is) (λ other. lawful.migration u)
+
+-- ---- how far it goes
+
+-- a thread that is at a call has fewer read holds of a lock than a script may have calls
+pub few-reads : (s : State) (made : ℕ) (t : TaskId) (call : Call) → IsLawful s made → call_of (thread_part s t) ≡ Some call → (l : LockId) → (hold_of (thread_part s t) l).reads < MAX_CALLS
+few-reads s made t call lawful calling l =
+    let thread = thread_part s t in
+    let here = at_call s t call calling in
+    let at_most : length thread.calls ≤ MAX_CALLS = All-default (λ (th : ThreadPart). length th.calls ≤ MAX_CALLS) s.threads t.0 _ (λ i d lt. few i d lt) here.1 in
+    omega (arith, at_most, slice_get_within thread.calls thread.answered call calling, lawful.readers.few l t)
+  where
+    few : All (λ (th : ThreadPart). length th.calls ≤ MAX_CALLS) s.threads
+    few i d lt =
+        let calls_at : ThreadPart → ℕ = λ th. length th.calls in
+        let one : length (get_or s.threads i d).calls ≤ calls_of s.threads = subst (λ (n : ℕ). calls_at (get_or s.threads i d) ≤ n) (sym (sum-map calls_at s.threads)) (get_or-le-sum_by calls_at s.threads i d lt) in
+        omega (arith, one, lawful.shape.few_calls)
+
+-- so its migration count is at most so many for each lock, and one for a write hold
+pub few-pinned : (s : State) (made : ℕ) (t : TaskId) (call : Call) → IsLawful s made → call_of (thread_part s t) ≡ Some call → (thread_part s t).migration ≤ MAX_LOCKS * (MAX_CALLS + 1)
+few-pinned s made t call lawful calling =
+    let there = (at_call s t call calling).1 in
+    let kinds : length thread.kinds ≡ length s.locks = All-default (λ (th : ThreadPart). length th.kinds ≡ length s.locks) s.threads t.0 _ lawful.shape.kinds there in
+    let few = lawful.shape.few_locks in
+    let most : pinned thread ≤ length thread.kinds * (MAX_CALLS + 1) = count-most pins (MAX_CALLS + 1) thread.kinds thread.holds (record { owns = false; reads = 0 }) each in
+    omega (arith, kinds, few, most, lawful.migration t)
+  where
+    thread : ThreadPart
+    thread = thread_part s t
+
+    one-most : (b : Bool) → cond b 1 0 ≤ 1
+    one-most true = omega arith
+    one-most false = omega arith
+
+    pins-most : (kind : Kind) (hold : Hold) → pins kind hold ≤ hold.reads + 1
+    pins-most Spin hold = omega (arith, one-most hold.owns)
+    pins-most RwLock hold = omega (arith, one-most hold.owns)
+    pins-most _ hold = omega arith
+
+    each : (kind : Kind) (i : ℕ) → pins kind (hold_of thread (record { 0 = i })) ≤ MAX_CALLS + 1
+    each kind i = omega (arith, pins-most kind (hold_of thread (record { 0 = i })), few-reads s made t call lawful calling (record { 0 = i }))

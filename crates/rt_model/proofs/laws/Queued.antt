@@ -1,6 +1,8 @@
 -- A next event keeps the queued law.
 use Rattle.std.proofs.Common.{◌≡◌, ℕ, ◌<◌, Bool, true, false, length, refl, sym, ap, ◌∙◌, subst, Option, Some, None, IfSome}
-use Rattle.std.specs.Prelude.{nat_eq}
+use Rattle.std.specs.Prelude.{nat_eq, option_and_then}
+use Rattle.rt_base.specs.declared.call.Call.{Call}
+use Rattle.rt_base.specs.declared.call.Call.TheVariants as calls
 use Rattle.rt_base.specs.declared.id.LockId.{LockId}
 use Rattle.rt_base.specs.declared.id.TaskId.{TaskId}
 use Rattle.rt_base.specs.declared.reply.Reply.TheVariants.{Done}
@@ -11,8 +13,8 @@ use Rattle.rt_model.specs.declared.phase.Phase.{Phase}
 use Rattle.rt_model.specs.declared.phase.Phase.TheVariants as phases
 use Rattle.rt_model.specs.declared.phase.Route.{Route}
 use Rattle.rt_model.specs.declared.phase.Route.TheVariants.{Short}
-use Rattle.rt_model.specs.Parts.{OwnerPart, TaskPart, ThreadPart}
-use Rattle.rt_model.specs.Choice.{present_lock}
+use Rattle.rt_model.specs.Parts.{OwnerPart, TaskPart, ThreadPart, call_of}
+use Rattle.rt_model.specs.Choice.{called_lock, present_lock}
 use Rattle.rt_model.specs.State.{State, shared, owner_part, task_part, thread_part}
 use Rattle.rt_model.specs.Effect.{Around, around}
 use Rattle.rt_model.specs.Rules.{touched, effect}
@@ -20,25 +22,29 @@ use Rattle.rt_model.specs.StateAfter.{thread_after, state_after}
 use Rattle.rt_model.specs.events.Wait.{phase_after_wait}
 use Rattle.rt_model.specs.steps.Chain.{followed, goes_on}
 use Rattle.rt_model.specs.steps.Task.{with_own}
+use Rattle.rt_model.specs.steps.Thread.{phase_after_got, got_answer, answered_with}
 use Rattle.rt_model.specs.laws.Lawful.{IsLawful}
 use Rattle.rt_model.specs.laws.Owners.{owned_by}
 use Rattle.rt_model.specs.laws.Queued.{QueuedLaw, awaited_in, asked_in}
 use Rattle.rt_model.proofs.Blocked.{moves, changes_own, blocking-other, blocking-kept, blocked-kept, take-blocked, wait-blocked}
-use Rattle.rt_model.proofs.Calling.{asks-present}
+use Rattle.rt_model.proofs.Calling.{asks-present, Returns, ReturnsBy, from_hold, from_inside}
 use Rattle.rt_model.proofs.Calm.{wakeup-at, wakeup-start, wakeup-blocked}
+use Rattle.rt_model.proofs.Inside.{outside-owned, asks-unowned}
 use Rattle.rt_model.proofs.Leaves.{IsLeft, left_answer, left_made, left-is, left-there, left-thread, left-own_blocked, leave-left, cycle-left}
 use Rattle.rt_model.proofs.Links.{walked_thread, requeued-owner, link-thread, end-thread, setprio-thread}
 use Rattle.rt_model.proofs.Lists.{if_some}
-use Rattle.rt_model.proofs.NextEvents.{IsNext, by_own, by_acquire, by_wait, by_release, by_walk, by_confirm, by_wakeup, by_setprio, task-IsNext}
+use Rattle.rt_model.proofs.NextEvents.{IsNext, by_own, by_acquire, by_wait, by_release, by_reading, by_walk, by_confirm, by_wakeup, by_setprio, task-IsNext}
 use Rattle.rt_model.proofs.Owned.{changes_owner, owners-kept}
-use Rattle.rt_model.proofs.events.Acquire.{AcquiresIn, by_lock, by_trying, is_fast, is_mark, is_take, is_busy}
+use Rattle.rt_model.proofs.Reading.{is_idle, reading-leaves, reading-idle, reading-was_idle, reading-left, reading-locks, reading-blocked}
+use Rattle.rt_model.proofs.events.Acquire.{from_start, from_reading, AcquiresIn, by_asking, by_trying, asking, is_fast, is_mark, is_take, is_busy}
+use Rattle.rt_model.proofs.events.Readers.{IsReading}
 use Rattle.rt_model.proofs.events.Wait.{is_wait, is_again, is_leave}
 use Rattle.rt_model.proofs.events.Release.{is_free, is_give}
 use Rattle.rt_model.proofs.events.Walk.{is_walk, is_walkend, is_restart, is_cycle}
 use Rattle.rt_model.proofs.Numbers.{at_each_task}
 use Rattle.rt_model.proofs.PartsAfter.{lock-kept, thread-own, thread-other}
 use Rattle.rt_model.proofs.Routes.{SameSort, SameSort-itself, SameSort-followed, walked-holds}
-use Rattle.rt_model.proofs.Waiters.{blocking, start-blocked, slow-unowned, walk-phase}
+use Rattle.rt_model.proofs.Waiters.{blocking, idle-blocked, start-blocked, slow-unowned, walk-phase}
 
 -- ---- the law at one task
 
@@ -127,9 +133,25 @@ wait_wants thread t l None blocked on = record { waits = on; asks = refl }
 start_wants : (thread : ThreadPart) → thread.phase ≡ phases.Start → Wants None None thread
 start_wants thread start = record { waits = ap (λ (p : Phase). awaited_in p (present_lock thread)) start; asks = ap (λ (p : Phase). asked_in p (present_lock thread)) start }
 
+-- so does one that has an owner part, and goes on as a reader or a writer, or to its next call
+got_wants : (thread : ThreadPart) (call : Option Call) → Wants None None (answered_with (record thread { phase = phase_after_got call thread.phase }) (got_answer call))
+got_wants thread (Some (calls.Read l)) = record { waits = refl; asks = refl }
+got_wants thread (Some (calls.Write l)) = record { waits = refl; asks = refl }
+got_wants thread (Some (calls.TryWrite l)) = record { waits = refl; asks = refl }
+got_wants thread _ = record { waits = refl; asks = refl }
+
+-- nothing has blocked a task that acquires a lock, or releases one
 acquires-blocked : (s : State) (made : ℕ) (t : TaskId) (l : LockId) → IsLawful s made → AcquiresIn s t l → (task_part s t).blocked ≡ None
-acquires-blocked s made t l lawful (by_lock asks unheld) = start-blocked s made t lawful asks.call asks.at
+acquires-blocked s made t l lawful (by_asking (from_start asks unheld)) = start-blocked s made t lawful asks.call asks.at
+acquires-blocked s made t l lawful (by_asking (from_reading asks)) = idle-blocked s made t lawful phases.Inner asks.call asks.at refl
 acquires-blocked s made t l lawful (by_trying at) = start-blocked s made t lawful at.call at.at
+
+returns-blocked : (s : State) (made : ℕ) (t : TaskId) (l : LockId) → IsLawful s made → Returns s t l → (task_part s t).blocked ≡ None
+returns-blocked s made t l lawful is = by_how is.by
+  where
+    by_how : ReturnsBy s t l is.call → (task_part s t).blocked ≡ None
+    by_how (from_hold releases at held) = start-blocked s made t lawful is.call at
+    by_how (from_inside ends at) = idle-blocked s made t lawful phases.Release is.call at refl
 
 module _ (s : State) (made : ℕ) (e x : Event) (lawful : IsLawful s made) (is : e ≡ x) (there : x.task.0 < length s.threads) where
   -- an event leaves its thread so, and its task blocked on what that waits for
@@ -137,13 +159,13 @@ module _ (s : State) (made : ℕ) (e x : Event) (lawful : IsLawful s made) (is :
       → IfSome awaited (Free (state_after s e) x.task) → IfSome asked (Free (state_after s e) x.task) → IsQueuedAt (state_after s e) x.task
   own awaited asked wants = stands (state_after s e) x.task awaited asked (subst (Wants awaited asked) (sym (thread-own s e x is there)) wants)
 
-  -- one that answers leaves its task at the start of a call
-  answers : (thread_after (shared s) (thread_part s x.task) x).phase ≡ phases.Start → (task_part (state_after s e) x.task).blocked ≡ None → IsQueuedAt (state_after s e) x.task
-  answers start none = own None None (start_wants (thread_after (shared s) (thread_part s x.task) x) start) (ap blocking none) tt tt
+  -- one that answers, or goes on in the part of a reader or a writer, leaves its task waiting for nothing
+  settles : Wants None None (thread_after (shared s) (thread_part s x.task) x) → (task_part (state_after s e) x.task).blocked ≡ None → IsQueuedAt (state_after s e) x.task
+  settles wants none = own None None wants (ap blocking none) tt tt
 
-  -- where it is the call's only event, nothing has blocked the task
-  answers_at_once : (thread_after (shared s) (thread_part s x.task) x).phase ≡ phases.Start → moves x.kind ≡ false → (task_part s x.task).blocked ≡ None → IsQueuedAt (state_after s e) x.task
-  answers_at_once start unmoved none = answers start (blocked-kept s e x x.task is unmoved ∙ none)
+  -- where nothing has blocked the task
+  settles_at_once : Wants None None (thread_after (shared s) (thread_part s x.task) x) → moves x.kind ≡ false → (task_part s x.task).blocked ≡ None → IsQueuedAt (state_after s e) x.task
+  settles_at_once wants unmoved none = settles wants (blocked-kept s e x x.task is unmoved ∙ none)
 
   -- a lock that its task doesn't own
   unowned : changes_owner x.kind ≡ false → (m : LockId) → Free s x.task m → Free (state_after s e) x.task m
@@ -169,19 +191,52 @@ queued_left s made t l e lawful is =
     (walk_wants (thread_part s t) t t (Short (left_answer is)) (Short (left_answer is)) (owner_part s l).owner _ (SameSort-itself (Short (left_answer is)))))
     (ap blocking (left-own_blocked s made t l e lawful is)) tt tt
 
+-- ---- of one that reads or writes
+
+idle_awaits : (phase : Phase) (lock : Option LockId) → is_idle phase ≡ true → awaited_in phase lock ≡ None
+idle_awaits phases.Wait lock is = cc
+idle_awaits (phases.Walk cursor route) lock is = cc
+idle_awaits (phases.Confirm path) lock is = cc
+idle_awaits _ lock is = refl
+
+-- only a reader that finds a writer in asks for a lock then, which it doesn't own
+reading_asks : (s : State) (made : ℕ) (t : TaskId) (l : LockId) (e : Event) → IsLawful s made → IsReading s t l e
+    → IfSome (asked_in (thread_after (shared s) (thread_part s t) e).phase (present_lock (thread_after (shared s) (thread_part s t) e))) (Free s t)
+reading_asks s made t l e lawful is =
+    let thread = thread_part s t in
+    reading-leaves (λ th. IfSome (asked_in th.phase (present_lock th)) (Free s t)) s t l e is (record {
+      answered = λ phase answer. tt;
+      shut = λ at unheld. subst (λ (c : Option Call). IfSome (option_and_then (called_lock thread.cpu) c) (Free s t)) (sym at.calling) (sym (outside-owned s t l lawful.owners phases.Start (calls.Read l) at refl) ∙ unheld);
+      last = λ at. tt;
+      start = λ at. subst (λ (p : Phase). IfSome (asked_in p (present_lock thread)) (Free s t)) (sym at) tt;
+      unbiased = λ call how at. tt;
+      asleep = λ at. tt;
+      releases = λ call ends at. tt;
+    })
+
+queued_reading : (s : State) (made : ℕ) (t : TaskId) (l : LockId) (e : Event) → IsLawful s made → IsReading s t l e → IsQueuedAt (state_after s e) t
+queued_reading s made t l e lawful is =
+    let left : ThreadPart = thread_after (shared s) (thread_part s t) e in
+    let asked : Option LockId = asked_in left.phase (present_lock left) in
+    let wants : Wants None asked left = record { waits = idle_awaits left.phase (present_lock left) (reading-idle s t l e is); asks = refl } in
+    stands (state_after s e) t None asked (subst (Wants None asked) (sym (reading-left s t l e is)) wants)
+    (ap blocking (reading-blocked s t l e is t) ∙ (lawful.queued.blocked t ∙ idle_awaits (thread_part s t).phase (present_lock (thread_part s t)) (reading-was_idle s t l e is))) tt
+    (if_some asked (Free s t) (Free (state_after s e) t) (λ m named free. ap (λ (lock : OwnerPart). owned_by lock.owner t) (reading-locks s t l e is m) ∙ free) (reading_asks s made t l e lawful is))
+
 queued_own : (s : State) (made : ℕ) (t : TaskId) (e : Event) → IsLawful s made → IsNext s t e → IsQueuedAt (state_after s e) t
-queued_own s made t e lawful (by_own call answer is) = answers_at_once s made e _ lawful is.event is.at.task refl refl (start-blocked s made t lawful call is.at)
-queued_own s made t e lawful (by_acquire l (is_fast is)) = answers_at_once s made e _ lawful is.event is.task refl refl (acquires-blocked s made t l lawful is.how)
+queued_own s made t e lawful (by_own call answer is) = settles_at_once s made e _ lawful is.event is.at.task (start_wants _ refl) refl (start-blocked s made t lawful call is.at)
+queued_own s made t e lawful (by_acquire l (is_fast is)) =
+    settles_at_once s made e _ lawful is.event is.task (got_wants (thread_part s t) (call_of (thread_part s t))) refl (acquires-blocked s made t l lawful is.how)
 queued_own s made t e lawful (by_acquire l (is_busy is)) =
-    answers_at_once s made e _ lawful is.event is.at.at.task refl refl (start-blocked s made t lawful is.at.call is.at.at)
-queued_own s made t e lawful (by_release l (is_free is)) =
-    answers_at_once s made e _ lawful is.event is.at.at.task refl refl (start-blocked s made t lawful is.at.call is.at.at)
-queued_own s made t e lawful (by_release l (is_give is)) =
-    answers_at_once s made e _ lawful is.event is.at.at.task refl refl (start-blocked s made t lawful is.at.call is.at.at)
-queued_own s made t e lawful (by_acquire l (is_take is)) = answers s made e _ lawful is.event is.task refl (take-blocked s t e l lawful.shape is)
+    settles_at_once s made e _ lawful is.event is.at.at.task (start_wants _ refl) refl (start-blocked s made t lawful is.at.call is.at.at)
+queued_own s made t e lawful (by_release l (is_free is)) = settles_at_once s made e _ lawful is.event is.at.task (start_wants _ refl) refl (returns-blocked s made t l lawful is.at)
+queued_own s made t e lawful (by_release l (is_give is)) = settles_at_once s made e _ lawful is.event is.at.task (start_wants _ refl) refl (returns-blocked s made t l lawful is.at)
+queued_own s made t e lawful (by_reading l is) = queued_reading s made t l e lawful is
+queued_own s made t e lawful (by_acquire l (is_take is)) = settles s made e _ lawful is.event is.task (got_wants (thread_part s t) (call_of (thread_part s t))) (take-blocked s t e l lawful.shape is)
 queued_own s made t e lawful (by_acquire l (is_mark is)) =
-    own s made e _ lawful is.event is.at.at.task None (Some l) (record { waits = refl; asks = asks-present s t phases.Start l is.at })
-    (ap blocking (blocked-kept s e _ t is.event refl ∙ start-blocked s made t lawful is.at.call is.at.at)) tt (unowned s made e _ lawful is.event is.at.at.task refl l (sym (lawful.owners l t) ∙ is.unheld))
+    let asks = asking s t l is.how in
+    own s made e _ lawful is.event is.task None (Some l) (record { waits = refl; asks = asks-present s t asks.0 l asks.1 })
+    (ap blocking (blocked-kept s e _ t is.event refl ∙ acquires-blocked s made t l lawful (by_asking is.how))) tt (unowned s made e _ lawful is.event is.task refl l (asks-unowned s made t l lawful is.how))
 queued_own s made t e lawful (by_wait l (is_wait is)) =
     own s made e _ lawful is.event is.at.at.task (Some l) None (wait_wants (thread_part s t) t l (owner_part s l).owner _ (asks-present s t phases.Slow l is.at))
     (ap blocking (wait-blocked s t e l lawful.shape is))

@@ -21,7 +21,7 @@ use Rattle.rt_model.proofs.Calling.{asks-lock}
 use Rattle.rt_model.proofs.Calm.{wakeup-kind, wakeup-locks}
 use Rattle.rt_model.proofs.Leaves.{IsLeft, leave-left, cycle-left, left-locks, left-blocked, left-own_blocked, left-blocked_other}
 use Rattle.rt_model.proofs.PartsAfter.{lock-made, lock-kept}
-use Rattle.rt_model.proofs.NextEvents.{IsNext, by_own, by_acquire, by_wait, by_release, by_walk, by_confirm, by_wakeup, by_setprio}
+use Rattle.rt_model.proofs.NextEvents.{IsNext, by_own, by_acquire, by_wait, by_release, by_reading, by_walk, by_confirm, by_wakeup, by_setprio}
 use Rattle.rt_model.proofs.events.Acquire.{IsTake, is_fast, is_mark, is_take, is_busy}
 use Rattle.rt_model.proofs.events.Wait.{IsWait, is_wait, is_again, is_leave}
 use Rattle.rt_model.proofs.events.Release.{is_free, is_give}
@@ -30,6 +30,7 @@ use Rattle.rt_model.proofs.Links.{link-locks, link-blocked, link-blocked_other}
 use Rattle.rt_model.proofs.Queues.{none_of, queue-ordered, insert-ordered, without-ordered, where_old-queue, where_old-key, where_old-other, row_of-insert, row_of-insert_other, row_of-without, row_of-without_other, no_rows}
 use Rattle.rt_model.proofs.Waiters.{blocking, key_elsewhere, take-elsewhere, slow-nowhere, slow-unqueued}
 use Rattle.rt_model.proofs.Numbers.{number_itself, at_each_task}
+use Rattle.rt_model.proofs.Reading.{reading-kind, reading-locks}
 
 -- ---- where a task is queued
 
@@ -101,11 +102,12 @@ queue-next s made t e m lawful next = by_kind next
     by_kind (by_walk route u (is_walkend is)) = lock-kept (Queue m) s e _ m is.event (same m) (λ lock was. was)
     by_kind (by_confirm l path (is_restart link is)) = lock-kept (Queue m) s e _ m is.event (same m) (λ lock was. was)
     by_kind (by_wakeup is) = subst (Queue m) (sym (wakeup-locks s t e is m)) (same m)
+    by_kind (by_reading l is) = subst (Queue m) (sym (reading-locks s t l e is m)) (same m)
     by_kind (by_setprio u prio is) = lock-kept (Queue m) s e _ m is.event (same m) (λ lock was. was)
     by_kind (by_wait l (is_leave is)) = left l (leave-left s t l e is)
     by_kind (by_confirm l path (is_cycle is)) = left l (cycle-left s made t l path e lawful is)
     by_kind (by_acquire l (is_fast is)) = lock-made Queue s e _ l m is.event refl is.lock (stays l (Some t) (owner_part s l).bit (was l).queue.clear) (λ there. same m)
-    by_kind (by_acquire l (is_mark is)) = lock-made Queue s e _ l m is.event refl (asks-lock s t phases.Start l is.at) (stays l (owner_part s l).owner true (λ clear. absurd cc)) (λ there. same m)
+    by_kind (by_acquire l (is_mark is)) = lock-made Queue s e _ l m is.event refl is.lock (stays l (owner_part s l).owner true (λ clear. absurd cc)) (λ there. same m)
     by_kind (by_acquire l (is_take is)) = lock-made Queue s e _ l m is.event refl is.lock (fewer made t (owner_part s l) (Some t) (was l)) (λ there. same m)
     by_kind (by_wait l (is_wait is)) =
         lock-made Queue s e _ l m is.event refl (asks-lock s t phases.Slow l is.at)
@@ -202,6 +204,8 @@ module _ (s : State) (made : ℕ) (t : TaskId) (e : Event) (m : LockId) (u : Tas
   row-next (by_walk route cursor (is_walkend is)) = still _ is.event refl
   row-next (by_confirm l path (is_restart link is)) = still _ is.event refl
   row-next (by_wakeup is) = still e refl (wakeup-kind (λ kind. moves kind ≡ false) s t e is refl refl refl)
+  row-next (by_reading l is) =
+      still e refl (reading-kind (λ kind. moves kind ≡ false) s t l e is (record { rin = refl; busy = refl; rout = refl; wwake = refl; unbias = refl; wtake = refl; wsleep = refl; wopen = refl }))
   row-next (by_setprio target prio is) = still _ is.event refl
   row-next (by_release l (is_free is)) = still _ is.event refl
   row-next (by_release l (is_give is)) = still _ is.event refl

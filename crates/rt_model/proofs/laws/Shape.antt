@@ -1,6 +1,6 @@
 -- An event leaves a state in shape, and one of its script.
-use Rattle.std.proofs.Common.{◌≡◌, ℕ, zero, suc, ◌<◌, List, [], ◌∷◌, length, map, not, refl, sym, ap, ◌∙◌, subst, Option, Some, None, All, IfSome, length-set, unwrap_or}
-use Rattle.std.specs.Prelude.{slice_get}
+use Rattle.std.proofs.Common.{◌≡◌, ℕ, zero, suc, ◌<◌, ◌≤◌, List, [], ◌∷◌, length, map, not, refl, sym, ap, ◌∙◌, subst, Option, Some, None, All, IfSome, length-set, unwrap_or}
+use Rattle.std.specs.Prelude.{slice_get, sum}
 use Rattle.std.proofs.lemmas.List.Elements.{All-filter}
 use Rattle.rt_base.specs.Kind.{spins}
 use Rattle.rt_base.specs.Script.{Script}
@@ -8,6 +8,7 @@ use Rattle.rt_base.specs.declared.call.Call.{Call}
 use Rattle.rt_base.specs.declared.call.Call.TheVariants as calls
 use Rattle.rt_base.specs.declared.id.TaskId.{TaskId}
 use Rattle.rt_base.specs.declared.kind.Kind.{Kind}
+use Rattle.rt_base.specs.declared.limits.TheConstants.{MAX_CALLS}
 use Rattle.rt_base.specs.declared.reply.Reply.{Reply}
 use Rattle.rt_base.specs.declared.reply.Reply.TheVariants as replies
 use Rattle.rt_model.specs.declared.event.Event.{Event}
@@ -25,10 +26,10 @@ use Rattle.rt_model.specs.Rules.{touched, effect}
 use Rattle.rt_model.specs.StateAfter.{update, effect_in, lock_left, tasks_left, shared_after, thread_after, state_after}
 use Rattle.rt_model.specs.steps.Thread.{holds_after, answered_with}
 use Rattle.rt_model.specs.Stage.{IsServed, IsForKind, IsStaged}
-use Rattle.rt_model.specs.laws.Shape.{IsShaped, IsOf, IsWithin, SameSize}
+use Rattle.rt_model.specs.laws.Shape.{calls_of, IsShaped, IsOf, IsWithin, SameSize}
 use Rattle.rt_model.proofs.Lists.{length-update, All-update, All-default, length-at_lock, length-at_task, All-at_lock, All-at_task}
 use Rattle.rt_model.proofs.Queues.{All-insert_row}
-use Rattle.rt_model.proofs.CellStepLemmas.{leave_queue-like, interrupted-like, blocked_on-like, woken_by-like, lock_woken-like, length-with_top, length-where_changed}
+use Rattle.rt_model.proofs.CellStepLemmas.{restored-like, leave_queue-like, interrupted-like, blocked_on-like, writer_rests-like, woken_by-like, lock_woken-like, length-with_top, length-where_changed}
 use Rattle.rt_model.proofs.Links.{requeued-owner}
 use Rattle.rt_model.proofs.Named.{requeued_within}
 use Rattle.rt_model.proofs.PartsAfter.{OthersKeep, thread-phase}
@@ -88,6 +89,8 @@ fits-own n kinds.Take e th found lock task fits = length-with_top e.lock _ _ ∙
 fits-own n kinds.Leave e th found lock task fits = ap length (interrupted-like (spins (kind_named th e.lock)) task).kept ∙ fits
 fits-own n kinds.Cycle e th found lock task fits = ap length (leave_queue-like (spins (kind_named th e.lock)) task).kept ∙ fits
 fits-own n kinds.Wait e th found lock task fits = ap length (blocked_on-like e.lock (rest_of (kind_named th e.lock) (call_of th)) task).kept ∙ fits
+fits-own n kinds.WTake e th found lock task fits = ap length (restored-like (spins (kind_named th e.lock)) task).kept ∙ fits
+fits-own n kinds.WSleep e th found lock task fits = ap length (writer_rests-like th.phase (rest_of (kind_named th e.lock) (call_of th)) task).kept ∙ fits
 fits-own n kinds.Give e th found lock task fits = length-with_top e.lock None task ∙ fits
 fits-own n _ e th found lock task fits = fits
 
@@ -96,6 +99,7 @@ fits-others n kinds.Wait e th found lock = record { owner = λ task fits. length
 fits-others n kinds.Leave e th found lock = record { owner = λ task fits. length-with_top e.lock _ task ∙ fits; other = λ task fits. fits; woken = λ task fits. fits }
 fits-others n kinds.Cycle e th found lock = record { owner = λ task fits. length-with_top e.lock _ task ∙ fits; other = λ task fits. fits; woken = λ task fits. fits }
 fits-others n kinds.Wake e th found lock = record { owner = λ task fits. fits; other = λ task fits. ap length (woken_by-like e.value task).like.kept ∙ fits; woken = λ task fits. fits }
+fits-others n kinds.WWake e th found lock = record { owner = λ task fits. fits; other = λ task fits. fits; woken = λ task fits. ap length (lock_woken-like (spins (kind_named th e.lock)) task).like.kept ∙ fits }
 fits-others n kinds.Give e th found lock = record { owner = λ task fits. fits; other = λ task fits. fits; woken = λ task fits. ap length (lock_woken-like (spins (kind_named th e.lock)) task).like.kept ∙ fits }
 fits-others n kinds.Walk e th found lock = record {
   owner = λ task fits. length-where_changed e.lock found.lock.rows lock.rows task ∙ fits;
@@ -121,6 +125,13 @@ length-holds_after thread (Some (calls.Unlock l)) replies.Done = simp length-set
 length-holds_after thread (Some (calls.Spin l)) replies.Got = simp length-set
 length-holds_after thread (Some (calls.TrySpin l)) replies.Got = simp length-set
 length-holds_after thread (Some (calls.Unspin l)) replies.Done = simp length-set
+length-holds_after thread (Some (calls.Read l)) replies.Got = simp length-set
+length-holds_after thread (Some (calls.TryRead l)) replies.Got = simp length-set
+length-holds_after thread (Some (calls.Unread l)) replies.Done = simp length-set
+length-holds_after thread (Some (calls.Write l)) replies.Got = simp length-set
+length-holds_after thread (Some (calls.TryWrite l)) replies.Got = simp length-set
+length-holds_after thread (Some (calls.Unwrite l)) replies.Done = simp length-set
+length-holds_after thread (Some (calls.Downgrade l)) replies.Done = simp length-set
 length-holds_after thread call answer = refl
 
 answer-left : (thread : ThreadPart) (reply : Option Reply) → KeepsThread thread (answered_with thread reply)
@@ -145,6 +156,12 @@ fits-still before after kinds calls fits = subst (λ (ks : List Kind). All (IsFo
 
 -- ---- the state
 
+-- what a list is mapped to, where one is written that gives the same
+map-write : {X Y : Type 0} (g : X → Y) (xs : List X) (i : ℕ) (x d : X) → g x ≡ g (unwrap_or (slice_get xs i) d) → map g (update xs i (λ old. x)) ≡ map g xs
+map-write g [] i x d is = refl
+map-write g (y ∷ xs) zero x d is = ap (λ z. z ∷ map g xs) is
+map-write g (y ∷ xs) (suc i) x d is = ap (λ zs. g y ∷ zs) (map-write g xs i x d is)
+
 tasks-keep : (P : TaskPart → Type 0) (named : Touched) (f : Effect) (lock : OwnerPart) (xs : List TaskPart) → ((task : TaskPart) → P task → P (f.own lock task)) → OthersKeep P f lock → All P xs → All P (tasks_left named f lock xs)
 tasks-keep P named f lock xs own others all =
     All-at_task P _ named.woken (f.woken lock) others.woken (All-at_task P _ named.other (f.other lock) others.other
@@ -168,6 +185,13 @@ module _ (s : State) (e : Event) (lt : e.task.0 < length s.threads) where
   threads-keep : (P : ThreadPart → Type 0) → ((after : ThreadPart) → KeepsThread (thread_part s e.task) after → P (thread_part s e.task) → P after) → All P s.threads → All P (state_after s e).threads
   threads-keep P keeps all = All-update P s.threads e.task.0 _ (λ old was. keeps _ (thread-keeps (shared s) (thread_part s e.task) e) (All-default P s.threads e.task.0 _ all lt)) all
 
+  -- each makes the calls that it made
+  same_calls : map (λ (thread : ThreadPart). thread.calls) (state_after s e).threads ≡ map (λ (thread : ThreadPart). thread.calls) s.threads
+  same_calls = map-write (λ (thread : ThreadPart). thread.calls) s.threads e.task.0 _ _ (thread-keeps (shared s) (thread_part s e.task) e).calls
+
+  few_calls : calls_of s.threads ≤ MAX_CALLS → calls_of (state_after s e).threads ≤ MAX_CALLS
+  few_calls few = subst (λ (n : ℕ). n ≤ MAX_CALLS) (sym (ap sum (map-write (λ (thread : ThreadPart). length thread.calls) s.threads e.task.0 _ _ (ap length (thread-keeps (shared s) (thread_part s e.task) e).calls)))) few
+
   -- how far the stage goes
   pub IsStaged-after : IsStaged s → IsStaged (state_after s e)
   IsStaged-after staged = record {
@@ -189,6 +213,7 @@ IsShaped-after s e within shaped =
     record {
       few_tasks = rw same_threads shaped.few_tasks;
       few_locks = rw same_locks shaped.few_locks;
+      few_calls = few_calls s e within.task shaped.few_calls;
       readers = length-at_lock s.readers (touched e.kind e).readers _ ∙ (shaped.readers ∙ sym same_locks);
       tasks = tasks s e within.task ∙ (shaped.tasks ∙ sym same_threads);
       kept = subst (λ (k : ℕ). All (KeptFits k) (state_after s e).tasks) (sym same_locks)
@@ -205,18 +230,13 @@ IsShaped-after s e within shaped =
 
 -- ---- the script
 
-map-write : {X Y : Type 0} (g : X → Y) (xs : List X) (i : ℕ) (x d : X) → g x ≡ g (unwrap_or (slice_get xs i) d) → map g (update xs i (λ old. x)) ≡ map g xs
-map-write g [] i x d is = refl
-map-write g (y ∷ xs) zero x d is = ap (λ z. z ∷ map g xs) is
-map-write g (y ∷ xs) (suc i) x d is = ap (λ zs. g y ∷ zs) (map-write g xs i x d is)
-
 pub IsOf-after : (script : Script) (s : State) (e : Event) → e.task.0 < length s.threads → IsOf script s → IsOf script (state_after s e)
 IsOf-after script s e lt is = record {
   locks = length-at_lock s.locks (touched e.kind e).lock _ ∙ is.locks;
   readers = length-at_lock s.readers (touched e.kind e).readers _ ∙ is.readers;
   tasks = tasks s e lt ∙ is.tasks;
   kinds = threads-keep s e lt (KnowsKinds (kinds_in script)) (λ after keeps was. keeps.kinds ∙ was) is.kinds;
-  calls = map-write (λ (thread : ThreadPart). thread.calls) s.threads e.task.0 _ _ (thread-keeps (shared s) (thread_part s e.task) e).calls ∙ is.calls;
+  calls = same_calls s e lt ∙ is.calls;
 }
 
 pub IsOf-threads : (script : Script) (s : State) → IsOf script s → length s.threads ≡ length script.tasks

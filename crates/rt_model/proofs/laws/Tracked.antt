@@ -1,7 +1,7 @@
 -- What a next event makes of what is seen of a task, and of its two fields, is what the flat wakeup machine makes of them.
-use Rattle.std.proofs.Common.{◌≡◌, ℕ, zero, suc, ◌<◌, Bool, true, false, cond, not, ◌&&◌, List, [], ◌∷◌, length, map, refl, sym, ap, ◌∙◌, subst, Option, Some, None, unwrap_or}
-use Rattle.std.specs.Prelude.{option_map, is_some, is_none, nat_eq, slice_get}
-use Rattle.std.proofs.lemmas.Bool.{cond-true, cond-false}
+use Rattle.std.proofs.Common.{◌≡◌, ◌≢◌, ℕ, zero, suc, ◌<◌, Bool, true, false, cond, not, ◌||◌, List, [], ◌∷◌, length, map, refl, sym, ap, ◌∙◌, subst, Option, Some, None, unwrap_or}
+use Rattle.std.specs.Prelude.{is_some, nat_eq, slice_get}
+use Rattle.std.proofs.lemmas.Bool.{cond-true, cond-false, cond_both, or_from, or_left, or_right}
 use Rattle.rt_base.specs.Kind.{spins}
 use Rattle.rt_base.specs.Script.{Script, TaskLine, LockLine, task_line, lock_line}
 use Rattle.rt_base.specs.declared.call.Call.{Call}
@@ -11,50 +11,61 @@ use Rattle.rt_base.specs.declared.id.TaskId.{TaskId}
 use Rattle.rt_base.specs.declared.kind.Kind.{Kind}
 use Rattle.rt_base.specs.declared.kind.Kind.TheVariants.{Mutex}
 use Rattle.rt_base.specs.declared.reply.Reply.{Reply}
+use Rattle.rt_base.specs.declared.reply.Reply.TheVariants.{Deadlock, Interrupted, Done}
 use Rattle.rt_base.specs.declared.state.TaskState.{TaskState}
 use Rattle.rt_base.specs.declared.state.TaskState.TheVariants as states
 use Rattle.rt_model.specs.declared.event.Event.{Event}
 use Rattle.rt_model.specs.declared.event_kind.EventKind.{EventKind}
 use Rattle.rt_model.specs.declared.event_kind.EventKind.TheVariants as kinds
+use Rattle.rt_model.specs.declared.phase.Phase.{Phase}
 use Rattle.rt_model.specs.declared.phase.Phase.TheVariants as phases
 use Rattle.rt_model.specs.declared.phase.Route.{Route}
-use Rattle.rt_model.specs.declared.row.Row.{Row}
-use Rattle.rt_model.specs.Choice.{bare}
-use Rattle.rt_model.specs.Parts.{OwnerPart, TaskPart, ThreadPart, call_of, kind_of}
-use Rattle.rt_model.specs.Rows.{top_waiter, top_key, top_task, task_of, is_of, queued_key, top_changed}
+use Rattle.rt_model.specs.declared.phase.Route.TheVariants.{Full, Short}
+use Rattle.rt_model.specs.Choice.{bare, called_lock}
+use Rattle.rt_model.specs.Parts.{OwnerPart, TaskPart, ThreadPart, call_of, kind_of, kind_named}
+use Rattle.rt_model.specs.Path.{first_owner}
+use Rattle.rt_model.specs.Rows.{top_key}
 use Rattle.rt_model.specs.State.{State, shared, kinds_in, no_thread, owner_part, task_part, thread_part}
+use Rattle.rt_model.specs.events.Readers.{phase_after_rin, wtake_event, wsleep_event, wwake_event, writer_rests}
 use Rattle.rt_model.specs.events.Release.{give_event}
+use Rattle.rt_model.specs.events.Wait.{phase_after_wait}
+use Rattle.rt_model.specs.events.Walk.{phase_after_link, phase_after_end}
 use Rattle.rt_model.specs.Effect.{Around, around}
-use Rattle.rt_model.specs.Rules.{touched}
+use Rattle.rt_model.specs.Rules.{touched, effect}
 use Rattle.rt_model.specs.StateAfter.{effect_in, lock_left, shared_after, state_after}
-use Rattle.rt_model.specs.steps.Chain.{newly_top}
+use Rattle.rt_model.specs.steps.Chain.{goes_on, phase_of_walk}
 use Rattle.rt_model.specs.steps.Lock.{taken_by}
-use Rattle.rt_model.specs.steps.Task.{state_number, state_numbered, sleep_of, rest_of, blocked_on, restored, leave_queue, lock_woken}
-use Rattle.rt_model.specs.steps.Thread.{answered_with}
-use Rattle.rt_model.specs.laws.Flat.{Seen, count_answer, queued_after, seen_after, call_at, Flat, flat_woken, flat_woken_by, is_ordinary, flat_own, is_wakeup, flat_after, Tracked, track_event}
+use Rattle.rt_model.specs.steps.Readers.{wakes_writer}
+use Rattle.rt_model.specs.steps.Task.{state_number, state_numbered, sleep_of, rest_of, restored, leave_queue, lock_woken}
+use Rattle.rt_model.specs.steps.Thread.{phase_after_got, phase_after_busy, answered_with}
+use Rattle.rt_model.specs.laws.Flat.{Seen, count_answer, waiting_after, seen_after, call_at, Flat, flat_woken, flat_woken_by, is_ordinary, flat_own, is_wakeup, flat_after, Tracked, track_event}
 use Rattle.rt_model.specs.laws.Lawful.{IsLawful}
 use Rattle.rt_model.specs.laws.Owners.{owned_by}
-use Rattle.rt_model.specs.laws.Rows.{RowsLaw, key_at}
+use Rattle.rt_model.specs.laws.Queued.{awaited_in}
 use Rattle.rt_model.specs.laws.Shape.{IsOf}
-use Rattle.rt_model.specs.laws.States.{StatesLaw, IsRested, spins_at}
-use Rattle.rt_model.proofs.Blocked.{changes_own, blocking-kept, blocking-other, take-blocked, wait-blocked}
-use Rattle.rt_model.proofs.CellStepLemmas.{leave_queue-blocked}
+use Rattle.rt_model.specs.laws.States.{IsRested, has_slept, sleeps_spinning, spins_at, waits_spinning}
+use Rattle.rt_model.proofs.Blocked.{changes_own, blocked-kept, blocking-kept, blocking-other, take-blocked, wait-blocked}
+use Rattle.rt_model.proofs.Calling.{IsIn, ReturnsBy, from_hold, from_inside}
+use Rattle.rt_model.proofs.Calm.{wakeup-at}
+use Rattle.rt_model.proofs.Inside.{present-at}
 use Rattle.rt_model.proofs.Leaves.{IsLeft, by_leave, by_cycle, left-is, leave-left, cycle-left, left-own, left-own_blocked, left-blocked}
-use Rattle.rt_model.proofs.Links.{slots_there, link_lock, link-locks, link-slots}
+use Rattle.rt_model.proofs.Links.{slots_there, link-slots}
 use Rattle.rt_model.proofs.Lists.{All-default}
 use Rattle.rt_model.proofs.Named.{top_within}
-use Rattle.rt_model.proofs.NextEvents.{IsNext, by_own, by_acquire, by_wait, by_release, by_walk, by_confirm, by_wakeup, by_setprio}
-use Rattle.rt_model.proofs.Numbers.{number_itself, other_number, same_lock, at_each_task}
+use Rattle.rt_model.proofs.NextEvents.{IsNext, by_own, by_acquire, by_wait, by_release, by_reading, by_walk, by_confirm, by_wakeup, by_setprio}
+use Rattle.rt_model.proofs.Numbers.{number_itself, other_number, at_each_task}
 use Rattle.rt_model.proofs.PartsAfter.{SlotsThere, task-keeps, other-keeps, own-made, other-made, slots-made, thread-own, thread-other, thread-phase}
-use Rattle.rt_model.proofs.Queues.{none_of, top-at}
-use Rattle.rt_model.proofs.Waiters.{blocking, asks-awaited, start-blocked, slow-blocked}
-use Rattle.rt_model.proofs.Within.{task_room, rows_within}
-use Rattle.rt_model.proofs.events.Acquire.{IsTake, TakesIn, from_slow, from_wait, from_trying, is_fast, is_mark, is_take, is_busy}
+use Rattle.rt_model.proofs.Routes.{goes_on-holds}
+use Rattle.rt_model.proofs.TaskStates.{queued_waits, waits_as, rested-states, rested-set}
+use Rattle.rt_model.proofs.Waiters.{blocking, asks-awaited, idle-blocked, start-blocked, slow-blocked, queued-awake, walk-phase}
+use Rattle.rt_model.proofs.Within.{task_room, owner_within, rows_within}
+use Rattle.rt_model.proofs.events.Acquire.{AsksBy, from_start, from_reading, AcquiresIn, by_asking, by_trying, IsTake, TakesIn, from_slow, from_wait, from_trying, is_fast, is_mark, is_take, is_busy}
+use Rattle.rt_model.proofs.events.Readers.{IsMade, is_read, is_tryread, is_let_in, is_shut, is_tryshut, is_out, is_wwake, is_unbias, is_in, is_sleep, is_given_up, is_in_late, is_sleep_again, is_opened, is_downgraded, reading-holds}
 use Rattle.rt_model.proofs.events.Wait.{IsWait, IsAgain, is_wait, is_again, is_leave}
 use Rattle.rt_model.proofs.events.Release.{IsGive, is_free, is_give}
 use Rattle.rt_model.proofs.events.Wakeups.{IsState, IsSched, is_state, is_sched, is_wake, is_signal}
 use Rattle.rt_model.proofs.events.Walk.{IsWalk, is_walk, is_walkend, is_restart, is_cycle}
-use Rattle.rt_model.proofs.laws.Flat.{spins_in, fields, flat_at, blocked_on-fields, asleep-fields, leave_queue-fields, KeepsStates, KeepsStates-itself, flat-kept, with_top-keeps, sets_own, wakes_other, keeps-own, keeps-owner, keeps-other, keeps-others, chosen_same, after-quiet, after-other, after-own, after-lock_woken, after-wakeup, RestsIn, rests-kept, woken_by-flat, lock_woken-flat, flat-others}
+use Rattle.rt_model.proofs.laws.Flat.{flat_at, SavesNone, rested-saves, woken_by-fields, lock_woken-fields, flat_asleep, flat_restored, put_to_rest-fields, put_back-fields, restored-fields, leave_queue-fields, set-fields, KeepsStates, KeepsStates-itself, flat-kept, saves-kept, with_top-keeps, sets_own, wakes_other, keeps-own, keeps-owner, keeps-other, keeps-others, chosen_same, after-quiet, after-other, after-own, after-lock_woken, after-wakeup, flat-others}
 
 -- ---- a state of the script
 
@@ -71,26 +82,141 @@ module _ (script : Script) (s : State) (scripted : IsOf script s) (t : TaskId) w
       ap (λ (known : List Kind). unwrap_or (slice_get known l.0) Mutex) (All-default (λ (thread : ThreadPart). thread.kinds ≡ kinds_in script) s.threads t.0 _ scripted.kinds lt)
       ∙ read-seen (λ (line : LockLine). line.kind) script.locks l.0 _
 
-  pub spins-of : (blocked : Option (LockId × ℕ)) → t.0 < length s.threads → spins_at (thread_part s t) blocked ≡ spins_in script (blocking blocked)
-  spins-of None lt = refl
-  spins-of (Some at) lt = ap spins (kind-of at.0 lt)
-
-  -- so a task's states are as it waits for a spinning kind or not
-  pub rests : StatesLaw s → t.0 < length s.threads → RestsIn script (task_part s t)
-  rests law lt = subst (λ (b : Bool). IsRested b (task_part s t)) (spins-of (task_part s t).blocked lt) (law t)
-
-  -- and they have the calls of the script's tasks
+  -- and have the calls of the script's tasks
   calls-of : (thread_part s t).calls ≡ (task_line script t).calls
   calls-of =
       sym (read-seen (λ (thread : ThreadPart). thread.calls) s.threads t.0 no_thread)
       ∙ (ap (λ (all : List (List Call)). unwrap_or (slice_get all t.0) []) scripted.calls ∙ read-seen (λ (line : TaskLine). line.calls) script.tasks t.0 _)
 
+-- a task waits where it is blocked, or sleeps for readers
+abbrev waits_in : ThreadPart → TaskPart → Bool
+waits_in thread task = is_some task.blocked || has_slept thread.phase
+
 -- where a task's events have brought it, and its two fields
 abbrev pub place_at : State → TaskId → Seen
-place_at s t = record { answered = (thread_part s t).answered; queued = is_some (task_part s t).blocked }
+place_at s t = record { answered = (thread_part s t).answered; waiting = waits_in (thread_part s t) (task_part s t) }
 
-abbrev pub tracked_at : Script → State → TaskId → Tracked
-tracked_at script s t = record { seen = place_at s t; flat = flat_at script (task_part s t) }
+abbrev pub tracked_at : State → TaskId → Tracked
+tracked_at s t = record { seen = place_at s t; flat = flat_at (task_part s t) }
+
+-- ---- who sleeps for readers
+
+-- an event of this kind is a writer's that has slept, or goes to sleep
+abbrev of_sleeper : EventKind → Bool
+of_sleeper kinds.WTake = true
+of_sleeper kinds.WSleep = true
+of_sleeper _ = false
+
+-- any other is made by a task that doesn't sleep for readers
+module _ (s : State) (t : TaskId) where
+  abbrev IsUp : Type 0
+  IsUp = has_slept (thread_part s t).phase ≡ false
+
+  up-asks : (l : LockId) → AsksBy s t l → IsUp
+  up-asks l (from_start asks unheld) = ap has_slept asks.at.phased
+  up-asks l (from_reading asks) = ap has_slept asks.at.phased
+
+  up-acquires : (l : LockId) → AcquiresIn s t l → IsUp
+  up-acquires l (by_asking asks) = up-asks l asks
+  up-acquires l (by_trying tries) = ap has_slept tries.at.phased
+
+  up-takes : (l : LockId) → TakesIn s t l → IsUp
+  up-takes l (from_slow asks) = ap has_slept asks.at.phased
+  up-takes l (from_wait asks awake) = ap has_slept asks.at.phased
+  up-takes l (from_trying tries) = ap has_slept tries.at.phased
+
+  up-returns : (l : LockId) (call : Call) → ReturnsBy s t l call → IsUp
+  up-returns l call (from_hold releases at held) = ap has_slept at.phased
+  up-returns l call (from_inside ends at) = ap has_slept at.phased
+
+  up-before : (e : Event) → IsNext s t e → of_sleeper e.kind ≡ false → IsUp
+  up-before e (by_own call answer is) kind = ap has_slept is.at.phased
+  up-before e (by_acquire l (is_fast is)) kind = up-acquires l is.how
+  up-before e (by_acquire l (is_mark is)) kind = up-asks l is.how
+  up-before e (by_acquire l (is_take is)) kind = up-takes l is.how
+  up-before e (by_acquire l (is_busy is)) kind = ap has_slept is.at.at.phased
+  up-before e (by_wait l (is_wait is)) kind = ap has_slept is.at.at.phased
+  up-before e (by_wait l (is_again is)) kind = ap has_slept is.at.at.phased
+  up-before e (by_wait l (is_leave is)) kind = ap has_slept is.at.phased
+  up-before e (by_release l (is_free is)) kind = up-returns l is.at.call is.at.by
+  up-before e (by_release l (is_give is)) kind = up-returns l is.at.call is.at.by
+  up-before e (by_walk route u (is_walk l key is)) kind = ap has_slept (walk-phase s t route u is.how)
+  up-before e (by_walk route u (is_walkend is)) kind = ap has_slept (walk-phase s t route u is.how)
+  up-before e (by_confirm l path (is_restart link is)) kind = ap has_slept is.at.at.phased
+  up-before e (by_confirm l path (is_cycle is)) kind = ap has_slept is.at.at.phased
+  up-before e (by_wakeup is) kind = ap has_slept (wakeup-at s t e is).1.phased
+  up-before e (by_setprio u prio is) kind = ap has_slept is.at.phased
+  up-before e (by_reading l is) kind =
+      reading-holds (λ phase x. of_sleeper x.kind ≡ false → has_slept phase ≡ false) s t l e is
+      (record {
+        read = λ k. refl; let_in = λ k. refl; shut = λ k. refl; tryshut = λ k. refl; out = λ k. refl; wwake = λ k. refl; unbias = λ k. refl;
+        written = λ k. cc; late = λ k. cc; sleep = λ k. cc; again = λ k. cc; given_up = λ k. refl; opened = λ k. refl; downgraded = λ k. refl;
+      }) kind
+
+-- and leaves it so
+got-up : (call : Option Call) (phase : Phase) → has_slept phase ≡ false → has_slept (phase_after_got call phase) ≡ false
+got-up (Some (calls.Read l)) phase up = refl
+got-up (Some (calls.Write l)) phase up = refl
+got-up (Some (calls.TryWrite l)) phase up = refl
+got-up _ phase up = up
+
+busy-up : (call : Option Call) (phase : Phase) → has_slept phase ≡ false → has_slept (phase_after_busy call phase) ≡ false
+busy-up (Some (calls.Read l)) phase up = refl
+busy-up _ phase up = up
+
+wait-up : (t : TaskId) (l : Option LockId) (owner : Option TaskId) (blocked : Bool) → has_slept (phase_after_wait t l owner blocked) ≡ false
+wait-up t (Some l) (Some o) true = refl
+wait-up t _ _ _ = refl
+
+rin-up : (phase : Phase) → has_slept phase ≡ false → has_slept (phase_after_rin phase) ≡ false
+rin-up phases.ReadIn up = refl
+rin-up _ up = up
+
+ended-up : (route : Route) → has_slept (phase_of_walk route None) ≡ false
+ended-up (Full path) = refl
+ended-up (Short answer) = refl
+
+walked-up : (t : TaskId) (route onward : Route) (owner : Option TaskId) (task : TaskPart) → has_slept (phase_of_walk route (goes_on t onward owner task)) ≡ false
+walked-up t route onward owner task = goes_on-holds (λ next. has_slept (phase_of_walk route next) ≡ false) t onward owner task (ended-up route) (λ path is own blocked. refl) (λ o rest some stands. refl)
+
+link-up : (t : TaskId) (l : Option LockId) (owner : Option TaskId) (task : TaskPart) (phase : Phase) → has_slept phase ≡ false → has_slept (phase_after_link t l owner task phase) ≡ false
+link-up t (Some l) owner task (phases.Walk u route) up = walked-up t route _ owner task
+link-up t _ owner task _ up = up
+
+end-up : (phase : Phase) → has_slept phase ≡ false → has_slept (phase_after_end phase) ≡ false
+end-up (phases.Walk u route) up = ended-up route
+end-up _ up = up
+
+up-left : (kind : EventKind) (e : Event) (th : ThreadPart) (found left : Around) → of_sleeper kind ≡ false → has_slept th.phase ≡ false → has_slept ((effect kind e th found).thread left th).phase ≡ false
+up-left kinds.WTake e th found left is up = cc
+up-left kinds.WSleep e th found left is up = cc
+up-left kinds.Fast e th found left is up = got-up (call_of th) th.phase up
+up-left kinds.Take e th found left is up = got-up (call_of th) th.phase up
+up-left kinds.Mark e th found left is up = refl
+up-left kinds.Busy e th found left is up = busy-up (call_of th) th.phase up
+up-left kinds.Wait e th found left is up = wait-up e.task e.lock e.owner (is_some found.owner.blocked)
+up-left kinds.Leave e th found left is up = walked-up e.task (Short Interrupted) (Short Interrupted) e.owner left.owner
+up-left kinds.Cycle e th found left is up = walked-up e.task (Short Deadlock) (Short Deadlock) (first_owner e.path) left.owner
+up-left kinds.Walk e th found left is up = link-up e.task e.lock e.owner left.owner th.phase up
+up-left kinds.WalkEnd e th found left is up = end-up th.phase up
+up-left kinds.Restart e th found left is up = refl
+up-left kinds.SetPrio e th found left is up = walked-up e.task (Short Done) (Short Done) e.other left.other
+up-left kinds.RIn e th found left is up = rin-up th.phase up
+up-left kinds.ROut e th found left is up = cond_both (wakes_writer left.readers) phases.WakeWriter th.phase (λ (p : Phase). has_slept p ≡ false) (λ last. refl) (λ more. up)
+up-left kinds.Unbias e th found left is up = refl
+up-left kinds.WOpen e th found left is up = refl
+up-left _ e th found left is up = up
+
+answer-up : (thread : ThreadPart) (reply : Option Reply) → has_slept thread.phase ≡ false → has_slept (answered_with thread reply).phase ≡ false
+answer-up thread None up = up
+answer-up thread (Some answer) up = refl
+
+up-after : (s : State) (e : Event) → e.task.0 < length s.threads → of_sleeper e.kind ≡ false → has_slept (thread_part s e.task).phase ≡ false → has_slept (thread_part (state_after s e) e.task).phase ≡ false
+up-after s e lt kind up =
+    let th = thread_part s e.task in
+    let left = around (shared_after (shared s) th e) (touched e.kind e) in
+    ap (λ (thread : ThreadPart). has_slept thread.phase) (thread-own s e e refl lt)
+    ∙ answer-up ((effect_in (shared s) th e).thread left th) e.reply (up-left e.kind e th (around (shared s) (touched e.kind e)) left kind up)
 
 -- ---- which event changes a task's states
 
@@ -105,10 +231,15 @@ data Changes (s : State) (t : TaskId) (e : Event) : Type 0 where
   takes : (l : LockId) → IsTake s t l e → Changes s t e
   leaves : (l : LockId) → IsLeft s t l e → Changes s t e
   sets : (state : TaskState) → IsState s t state e → Changes s t e
-  goes_on : IsSched s t e → Changes s t e
+  schedules : IsSched s t e → Changes s t e
   wakes : (u : TaskId) (n : ℕ) (reply : Option Reply) → u.0 < length s.threads → e ≡ targeted t u n reply → Changes s t e
   gives : (l : LockId) → IsGive s t l e → Changes s t e
   walks : (route : Route) (u : TaskId) (l : LockId) (key : ℕ) → IsWalk s t route u l key e → Changes s t e
+  writes : (l : LockId) (call : Call) → IsMade s t l phases.WTry call (wtake_event t l None) e → Changes s t e
+  writes_late : (l : LockId) → IsMade s t l phases.WWait (calls.Write l) (wtake_event t l (Some t)) e → Changes s t e
+  sleeps_for : (l : LockId) → IsMade s t l phases.WTry (calls.Write l) (wsleep_event t l) e → Changes s t e
+  sleeps_on : (l : LockId) → IsMade s t l phases.WWait (calls.Write l) (wsleep_event t l) e → (task_part s t).state ≡ states.Running → Changes s t e
+  wakes_sleeper : (l : LockId) → IsMade s t l phases.WakeWriter (calls.Unread l) (wwake_event t l (owner_part s l)) e → Changes s t e
 
 changes_nothing : (s : State) (t : TaskId) (e x : Event) → e ≡ x → sets_own x.kind ≡ false → wakes_other x.kind ≡ false → x.woken ≡ None → Changes s t e
 changes_nothing s t e x is own others none = nothing (ap (λ (y : Event). sets_own y.kind) is ∙ own) (ap (λ (y : Event). wakes_other y.kind) is ∙ others) (ap (λ (y : Event). y.woken) is ∙ none)
@@ -129,10 +260,25 @@ changes s made t e lawful (by_walk route u (is_walkend is)) = changes_nothing s 
 changes s made t e lawful (by_confirm l path (is_restart link is)) = changes_nothing s t e _ is.event refl refl refl
 changes s made t e lawful (by_confirm l path (is_cycle is)) = leaves l (cycle-left s made t l path e lawful is)
 changes s made t e lawful (by_wakeup (is_state state is)) = sets state is
-changes s made t e lawful (by_wakeup (is_sched is)) = goes_on is
+changes s made t e lawful (by_wakeup (is_sched is)) = schedules is
 changes s made t e lawful (by_wakeup (is_wake u is)) = wakes u 0 _ is.at.served is.event
 changes s made t e lawful (by_wakeup (is_signal u is)) = wakes u 1 _ is.at.served is.event
 changes s made t e lawful (by_setprio u prio is) = changes_nothing s t e _ is.event refl refl refl
+changes s made t e lawful (by_reading l (is_in call by is can)) = writes l call is
+changes s made t e lawful (by_reading l (is_in_late is runs can)) = writes_late l is
+changes s made t e lawful (by_reading l (is_sleep is cannot)) = sleeps_for l is
+changes s made t e lawful (by_reading l (is_sleep_again is runs cannot)) = sleeps_on l is runs
+changes s made t e lawful (by_reading l (is_wwake is)) = wakes_sleeper l is
+changes s made t e lawful (by_reading l (is_read is unheld can)) = changes_nothing s t e _ is.event refl refl refl
+changes s made t e lawful (by_reading l (is_tryread is set)) = changes_nothing s t e _ is.event refl refl refl
+changes s made t e lawful (by_reading l (is_let_in is)) = changes_nothing s t e _ is.event refl refl refl
+changes s made t e lawful (by_reading l (is_shut is unheld cannot)) = changes_nothing s t e _ is.event refl refl refl
+changes s made t e lawful (by_reading l (is_tryshut is off)) = changes_nothing s t e _ is.event refl refl refl
+changes s made t e lawful (by_reading l (is_out is held)) = changes_nothing s t e _ is.event refl refl refl
+changes s made t e lawful (by_reading l (is_unbias call by is)) = changes_nothing s t e _ is.event refl refl refl
+changes s made t e lawful (by_reading l (is_given_up is cannot)) = changes_nothing s t e _ is.event refl refl refl
+changes s made t e lawful (by_reading l (is_opened is held)) = changes_nothing s t e _ is.event refl refl refl
+changes s made t e lawful (by_reading l (is_downgraded is held)) = changes_nothing s t e _ is.event refl refl refl
 
 -- ---- where the event brings a task
 
@@ -162,96 +308,115 @@ unmoved kinds.Leave is = cc
 unmoved kinds.Cycle is = cc
 unmoved _ is = refl
 
-queued-kept : (kind : EventKind) (queued : Bool) → changes_own kind ≡ false → queued_after kind queued ≡ queued
-queued-kept kinds.Take queued is = cc
-queued-kept kinds.Wait queued is = cc
-queued-kept kinds.Leave queued is = cc
-queued-kept kinds.Cycle queued is = cc
-queued-kept _ queued is = refl
+unslept : (kind : EventKind) → sets_own kind ≡ false → of_sleeper kind ≡ false
+unslept kinds.WTake is = cc
+unslept kinds.WSleep is = cc
+unslept _ is = refl
+
+waiting-kept : (kind : EventKind) (waiting : Bool) → changes_own kind ≡ false → of_sleeper kind ≡ false → waiting_after kind waiting ≡ waiting
+waiting-kept kinds.Take waiting kept quiet = cc
+waiting-kept kinds.Wait waiting kept quiet = cc
+waiting-kept kinds.Leave waiting kept quiet = cc
+waiting-kept kinds.Cycle waiting kept quiet = cc
+waiting-kept kinds.WTake waiting kept quiet = cc
+waiting-kept kinds.WSleep waiting kept quiet = cc
+waiting-kept _ waiting kept quiet = refl
 
 -- what is seen of the event's own task, and of every other
-module _ (s : State) (made : ℕ) (e : Event) (lawful : IsLawful s made) where
-  queued_still : changes_own e.kind ≡ false → is_some (task_part (state_after s e) e.task).blocked ≡ queued_after e.kind (is_some (task_part s e.task).blocked)
-  queued_still kept =
-      queued-same (task_part s e.task).blocked (task_part (state_after s e) e.task).blocked (blocking-kept s e e e.task refl kept) ∙ sym (queued-kept e.kind (is_some (task_part s e.task).blocked) kept)
+module _ (s : State) (made : ℕ) (e : Event) (lawful : IsLawful s made) (next : IsNext s e.task e) (there : e.task.0 < length s.threads) where
+  abbrev waited : Bool
+  waited = waits_in (thread_part s e.task) (task_part s e.task)
 
-  queued_as : (x : Event) → e ≡ x → changes_own x.kind ≡ false → is_some (task_part (state_after s e) e.task).blocked ≡ queued_after e.kind (is_some (task_part s e.task).blocked)
-  queued_as x is kept = queued_still (ap (λ (y : Event). changes_own y.kind) is ∙ kept)
+  abbrev waits_then : Bool
+  waits_then = waits_in (thread_part (state_after s e) e.task) (task_part (state_after s e) e.task)
 
-  queued_now : (x : Event) (blocked : Option (LockId × ℕ)) → e ≡ x → (task_part (state_after s e) e.task).blocked ≡ blocked → is_some blocked ≡ queued_after x.kind (is_some (task_part s e.task).blocked)
-      → is_some (task_part (state_after s e) e.task).blocked ≡ queued_after e.kind (is_some (task_part s e.task).blocked)
-  queued_now x blocked is at same = ap (λ (b : Option (LockId × ℕ)). is_some b) at ∙ (same ∙ sym (ap (λ (y : Event). queued_after y.kind (is_some (task_part s e.task).blocked)) is))
+  still_waits : changes_own e.kind ≡ false → of_sleeper e.kind ≡ false → waiting_after e.kind waited ≡ waits_then
+  still_waits kept quiet =
+      let up = up-before s e.task e next quiet in
+      let queued = queued-same (task_part s e.task).blocked (task_part (state_after s e) e.task).blocked (blocking-kept s e e e.task refl kept) in
+      waiting-kept e.kind waited kept quiet ∙ λ i. sym queued i || (up ∙ sym (up-after s e there quiet up)) i
 
-  own-queued : Changes s e.task e → is_some (task_part (state_after s e) e.task).blocked ≡ queued_after e.kind (is_some (task_part s e.task).blocked)
-  own-queued (nothing own others none) = queued_still (unmoved e.kind own)
-  own-queued (waits l is) = queued_now _ _ is.event (wait-blocked s e.task e l lawful.shape is) refl
-  own-queued (sleeps_again l is) = queued_as _ is.event refl
-  own-queued (takes l is) = queued_now _ _ is.event (take-blocked s e.task e l lawful.shape is) refl
-  own-queued (leaves l (by_leave is)) = queued_now _ _ is.event (left-own_blocked s made e.task l e lawful (by_leave is)) refl
-  own-queued (leaves l (by_cycle path o m rest is round owned)) = queued_now _ _ is.event (left-own_blocked s made e.task l e lawful (by_cycle path o m rest is round owned)) refl
-  own-queued (sets state is) = queued_as _ is.event refl
-  own-queued (goes_on is) = queued_as _ is.event refl
-  own-queued (wakes u n reply there is) = queued_as _ is refl
-  own-queued (gives l is) = queued_as _ is.event refl
-  own-queued (walks route u l key is) = queued_as _ is.event refl
+  -- of one that comes about as x
+  waits_by : (x : Event) → e ≡ x → changes_own x.kind ≡ false → of_sleeper x.kind ≡ false → waiting_after e.kind waited ≡ waits_then
+  waits_by x is kept quiet = still_waits (ap (λ (y : Event). changes_own y.kind) is ∙ kept) (ap (λ (y : Event). of_sleeper y.kind) is ∙ quiet)
 
-  own-seen : e.task.0 < length s.threads → Changes s e.task e → seen_after e (place_at s e.task) ≡ place_at (state_after s e) e.task
-  own-seen there how = λ i. record { answered = sym (own-answered s e there) i; queued = sym (own-queued how) i }
+  waits_now : (x : Event) → e ≡ x → waiting_after x.kind waited ≡ waits_then → waiting_after e.kind waited ≡ waits_then
+  waits_now x is same = ap (λ (y : Event). waiting_after y.kind waited) is ∙ same
+
+  -- where it isn't blocked then, and doesn't sleep for readers
+  waits_no_more : (x : Event) → e ≡ x → waiting_after x.kind waited ≡ false → (task_part (state_after s e) e.task).blocked ≡ None → has_slept (thread_part (state_after s e) e.task).phase ≡ false → waiting_after e.kind waited ≡ waits_then
+  waits_no_more x is ends none up = waits_now x is (ends ∙ sym (or_from (is_some (task_part (state_after s e) e.task).blocked) _ (ap (λ (b : Option (LockId × ℕ)). is_some b) none) up))
+
+  left_queue_then : (x : Event) → e ≡ x → waiting_after x.kind waited ≡ false → of_sleeper x.kind ≡ false → (task_part (state_after s e) e.task).blocked ≡ None → waiting_after e.kind waited ≡ waits_then
+  left_queue_then x is ends other none =
+      let quiet = ap (λ (y : Event). of_sleeper y.kind) is ∙ other in
+      waits_no_more x is ends none (up-after s e there quiet (up-before s e.task e next quiet))
+
+  -- a writer that gets in is blocked on nothing, and its call is answered
+  writer_waits : (l : LockId) (phase : Phase) (call : Call) (slept : Option TaskId) → IsMade s e.task l phase call (wtake_event e.task l slept) e → awaited_in phase (called_lock (thread_part s e.task).cpu call) ≡ None
+      → waiting_after e.kind waited ≡ waits_then
+  writer_waits l phase call slept is idle =
+      waits_no_more _ is.event refl (blocked-kept s e _ e.task is.event refl ∙ idle-blocked s made e.task lawful phase call is.at idle) (ap (λ (thread : ThreadPart). has_slept thread.phase) (thread-own s e _ is.event there))
+
+  -- and one that goes to sleep waits
+  sleeper_waits : (l : LockId) (phase : Phase) → IsMade s e.task l phase (calls.Write l) (wsleep_event e.task l) e → waiting_after e.kind waited ≡ waits_then
+  sleeper_waits l phase is =
+      waits_now _ is.event (sym (or_right (is_some (task_part (state_after s e) e.task).blocked) _ (ap (λ (thread : ThreadPart). has_slept thread.phase) (thread-own s e _ is.event there))))
+
+  own-waits : Changes s e.task e → waiting_after e.kind waited ≡ waits_then
+  own-waits (nothing own others none) = still_waits (unmoved e.kind own) (unslept e.kind own)
+  own-waits (waits l is) = waits_now _ is.event (sym (or_left _ (has_slept (thread_part (state_after s e) e.task).phase) (ap (λ (b : Option (LockId × ℕ)). is_some b) (wait-blocked s e.task e l lawful.shape is))))
+  own-waits (sleeps_again l is) = waits_by _ is.event refl refl
+  own-waits (takes l is) = left_queue_then _ is.event refl refl (take-blocked s e.task e l lawful.shape is)
+  own-waits (leaves l (by_leave is)) = left_queue_then _ is.event refl refl (left-own_blocked s made e.task l e lawful (by_leave is))
+  own-waits (leaves l (by_cycle path o m rest is round owned)) = left_queue_then _ is.event refl refl (left-own_blocked s made e.task l e lawful (by_cycle path o m rest is round owned))
+  own-waits (sets state is) = waits_by _ is.event refl refl
+  own-waits (schedules is) = waits_by _ is.event refl refl
+  own-waits (wakes u n reply within is) = waits_by _ is refl refl
+  own-waits (gives l is) = waits_by _ is.event refl refl
+  own-waits (walks route u l key is) = waits_by _ is.event refl refl
+  own-waits (writes l call is) = writer_waits l phases.WTry call None is refl
+  own-waits (writes_late l is) = writer_waits l phases.WWait (calls.Write l) (Some e.task) is refl
+  own-waits (sleeps_for l is) = sleeper_waits l phases.WTry is
+  own-waits (sleeps_on l is runs) = sleeper_waits l phases.WWait is
+  own-waits (wakes_sleeper l is) = waits_by _ is.event refl refl
+
+  own-seen : Changes s e.task e → seen_after e (place_at s e.task) ≡ place_at (state_after s e) e.task
+  own-seen how = λ i. record { answered = sym (own-answered s e there) i; waiting = own-waits how i }
 
   other-seen : (u : TaskId) → nat_eq e.task.0 u.0 ≡ false → place_at s u ≡ place_at (state_after s e) u
-  other-seen u ne = λ i. record {
-    answered = sym (ap (λ (thread : ThreadPart). thread.answered) (thread-other s e u ne)) i;
-    queued = sym (queued-same (task_part s u).blocked (task_part (state_after s e) u).blocked (blocking-other s e u ne)) i;
-  }
+  other-seen u ne =
+      let queued = queued-same (task_part s u).blocked (task_part (state_after s e) u).blocked (blocking-other s e u ne) in
+      λ i. record { answered = (sym (thread-other s e u ne) i).answered; waiting = sym queued i || has_slept (sym (thread-other s e u ne) i).phase }
 
-  place_left : (u : TaskId) → e.task.0 < length s.threads → Changes s e.task e → cond (nat_eq e.task.0 u.0) (seen_after e (place_at s u)) (place_at s u) ≡ place_at (state_after s e) u
-  place_left u there how =
+  place_left : (u : TaskId) → Changes s e.task e → cond (nat_eq e.task.0 u.0) (seen_after e (place_at s u)) (place_at s u) ≡ place_at (state_after s e) u
+  place_left u how =
       at_each_task (λ v. cond (nat_eq e.task.0 v.0) (seen_after e (place_at s v)) (place_at s v) ≡ place_at (state_after s e) v) e.task u
-      (cond-true (nat_eq e.task.0 e.task.0) (seen_after e (place_at s e.task)) (place_at s e.task) (number_itself e.task.0) ∙ own-seen there how)
+      (cond-true (nat_eq e.task.0 e.task.0) (seen_after e (place_at s e.task)) (place_at s e.task) (number_itself e.task.0) ∙ own-seen how)
       (λ ne. cond-false (nat_eq e.task.0 u.0) (seen_after e (place_at s u)) (place_at s u) ne ∙ other-seen u ne)
-
--- ---- the top waiter of a lock is blocked on it
-
-top-queued : (u : TaskId) (rows : List Row) → owned_by (top_task rows) u ≡ true → queued_key u rows ≡ None → ⊥
-top-queued u rows tops none = by_top (top_waiter rows) refl tops
-  where
-    by_top : (top : Option Row) → top_waiter rows ≡ top → owned_by (option_map task_of top) u ≡ true → ⊥
-    by_top None at is = cc
-    by_top (Some row) at is = let isnt : is_of u row ≡ false = top-at (λ (r : Row). is_of u r ≡ false) rows row (none_of u rows none) at in cc
-
-blocked-there : (u : TaskId) (l : LockId) (rows : List Row) (blocked : Option (LockId × ℕ)) → queued_key u rows ≡ key_at blocked l → owned_by (top_task rows) u ≡ true → blocking blocked ≡ Some l
-blocked-there u l rows None row tops = absurd (top-queued u rows tops row)
-blocked-there u l rows (Some at) row tops = by_test (nat_eq at.0.0 l.0) refl row
-  where
-    by_test : (b : Bool) → nat_eq at.0.0 l.0 ≡ b → queued_key u rows ≡ cond b (Some at.1) None → blocking (Some at) ≡ Some l
-    by_test true same row = ap Some (same_lock at.0 l same)
-    by_test false other row = absurd (top-queued u rows tops row)
-
-newly-top : (u : TaskId) (before after : OwnerPart) → owned_by (newly_top before after) u ≡ true → owned_by (top_task after.rows) u ≡ true
-newly-top u before after is = by_test (is_none after.owner && top_changed before.rows after.rows) is
-  where
-    by_test : (b : Bool) → owned_by (cond b (top_task after.rows) None) u ≡ true → owned_by (top_task after.rows) u ≡ true
-    by_test true tops = tops
-    by_test false never = cc
 
 -- ---- what the event makes of the two fields
 
 module _ (script : Script) (s : State) (made : ℕ) (e : Event) (lawful : IsLawful s made) (scripted : IsOf script s) (there : e.task.0 < length s.threads) where
   abbrev before : TaskId → Flat
-  before u = flat_at script (task_part s u)
+  before u = flat_at (task_part s u)
 
   abbrev left : TaskId → Flat
-  left u = flat_at script (task_part (state_after s e) u)
+  left u = flat_at (task_part (state_after s e) u)
 
   -- the two fields become those that the task then has
   abbrev Fits : TaskId → Type 0
   Fits u = flat_after script u (place_at s u) e (before u) ≡ left u
 
+  -- a task in an ordinary sleep has saved nothing
+  saves : (u : TaskId) → SavesNone (task_part s u).state (task_part s u).saved
+  saves u = rested-saves (waits_spinning (thread_part s u) (task_part s u)) (task_part s u) (lawful.states u)
+
   -- an event that changes nothing
   fits_nothing : sets_own e.kind ≡ false → wakes_other e.kind ≡ false → e.woken ≡ None → (u : TaskId) → Fits u
   fits_nothing own others none u =
       after-quiet script u (place_at s u) e (before u) own others none
-      ∙ sym (flat-kept script (task_part s u) (task_part (state_after s e) u)
+      ∙ sym (flat-kept (task_part s u) (task_part (state_after s e) u)
       (task-keeps (KeepsStates (task_part s u)) s e u (KeepsStates-itself (task_part s u)) (keeps-own (task_part s u) e.kind e (thread_part s e.task) own) (keeps-others (task_part s u) e.kind e (thread_part s e.task) others)))
 
   -- ---- of its own task
@@ -265,7 +430,7 @@ module _ (script : Script) (s : State) (made : ℕ) (e : Event) (lawful : IsLawf
       at_each_task Fits e.task u
       (after-own script e.task (place_at s e.task) e (before e.task) (number_itself e.task.0) others none ∙ (ap own_made is ∙ at))
       (λ ne. after-other script u (place_at s u) e (before u) ne others none
-      ∙ sym (flat-kept script (task_part s u) (task_part (state_after s e) u)
+      ∙ sym (flat-kept (task_part s u) (task_part (state_after s e) u)
       (other-keeps (KeepsStates (task_part s u)) s e u ne (KeepsStates-itself (task_part s u)) (keeps-others (task_part s u) e.kind e (thread_part s e.task) others))))
     where
       others : wakes_other e.kind ≡ false
@@ -276,112 +441,112 @@ module _ (script : Script) (s : State) (made : ℕ) (e : Event) (lawful : IsLawf
 
   -- whose own slot leaves these two fields
   fits_slot : (x : Event) → e ≡ x → wakes_other x.kind ≡ false → x.woken ≡ None → (touched x.kind x).own ≡ Some e.task
-      → own_made x ≡ flat_at script ((effect_in (shared s) (thread_part s x.task) x).own (lock_left (shared s) (thread_part s x.task) x) (task_part s e.task)) → (u : TaskId) → Fits u
+      → own_made x ≡ flat_at ((effect_in (shared s) (thread_part s x.task) x).own (lock_left (shared s) (thread_part s x.task) x) (task_part s e.task)) → (u : TaskId) → Fits u
   fits_slot x is others none named at =
       fits_own x is others none
-      (own-made (λ v task. own_made x ≡ flat_at script task) s e x e.task e.task is named (task_room s e.task lawful.shape there)
-      (flat-others script (own_made x) x.kind x (thread_part s x.task) others (around (shared s) (touched x.kind x)) (lock_left (shared s) (thread_part s x.task) x))
+      (own-made (λ v task. own_made x ≡ flat_at task) s e x e.task e.task is named (task_room s e.task lawful.shape there)
+      (flat-others (own_made x) x.kind x (thread_part s x.task) others (around (shared s) (touched x.kind x)) (lock_left (shared s) (thread_part s x.task) x))
       at (λ ne. absurd (other_number e.task.0 e.task.0 ne refl)))
 
-  -- what becomes of its task at this lock
+  abbrev own_task : TaskPart
+  own_task = task_part s e.task
+
+  abbrev own_thread : ThreadPart
+  own_thread = thread_part s e.task
+
+  -- it rests as it is to, where it waits for no lock and no readers
+  free : own_task.blocked ≡ None → has_slept own_thread.phase ≡ false → IsRested false own_task
+  free none up = subst (λ (b : Bool). IsRested b own_task) (queued_waits own_thread own_task up ∙ ap (spins_at own_thread) none) (lawful.states e.task)
+
+  -- what becomes of it at this lock
   module _ (l : LockId) where
     abbrev spinning : Bool
-    spinning = spins_in script (Some l)
-
-    abbrev own_task : TaskPart
-    own_task = task_part s e.task
+    spinning = spins (kind_of own_thread l)
 
     -- out of the lock's queue
     abbrev out_of_queue : TaskPart
-    out_of_queue = leave_queue (spins (kind_of (thread_part s e.task) l)) own_task
+    out_of_queue = leave_queue spinning own_task
 
-    -- its two fields as the flat machine puts it to sleep at the lock, wakes it from there, and gives it the lock
-    abbrev asleep : Flat
-    asleep = cond (not spinning) (record (before e.task) { state = sleep_of (call_at script e.task (place_at s e.task)) }) (before e.task)
+    -- it rests as it is to, where it is queued, and where it sleeps for readers
+    queued : blocking own_task.blocked ≡ Some l → IsRested spinning own_task
+    queued at = subst (λ (b : Bool). IsRested b own_task) (waits_as s e.task e.task l lawful.shape there there at (queued-awake s e.task l lawful.queued at)) (lawful.states e.task)
 
-    abbrev woken : Flat
-    woken = cond (not spinning) (record (before e.task) { state = states.Running }) (before e.task)
-
-    abbrev taken : Flat
-    taken = cond (not spinning) (cond (is_some own_task.blocked) (record (before e.task) { state = states.Running }) (before e.task)) (before e.task)
+    asleep : (x : Event) → IsMade s e.task l phases.WWait (calls.Write l) x e → IsRested spinning own_task
+    asleep x is =
+        let none = idle-blocked s made e.task lawful phases.WWait (calls.Write l) is.at refl in
+        let present = present-at s e.task phases.WWait (calls.Write l) (Some l) is.at refl in
+        subst (λ (b : Bool). IsRested b own_task) (λ i. spins_at own_thread (none i) || sleeps_spinning (is.at.phased i) (kind_named own_thread (present i))) (lawful.states e.task)
 
     -- its thread knows the lock's kind, and is at the call that the flat machine finds
-    known : spins (kind_of (thread_part s e.task) l) ≡ spinning
-    known = ap spins (kind-of script s scripted e.task l there)
+    known : spins (lock_line script l).kind ≡ spinning
+    known = ap spins (sym (kind-of script s scripted e.task l there))
 
-    calling : call_at script e.task (place_at s e.task) ≡ call_of (thread_part s e.task)
-    calling = ap (λ (all : List Call). slice_get all (thread_part s e.task).answered) (sym (calls-of script s scripted e.task))
+    calling : call_at script e.task (place_at s e.task) ≡ call_of own_thread
+    calling = ap (λ (all : List Call). slice_get all own_thread.answered) (sym (calls-of script s scripted e.task))
 
-    -- its two fields before, where it isn't blocked, and where it is queued
-    free : own_task.blocked ≡ None → before e.task ≡ fields false own_task
-    free none = ap (λ (blocked : Option (LockId × ℕ)). fields (spins_in script (blocking blocked)) own_task) none
+    -- so this is what the flat machine makes of its two fields: as it puts it to sleep, and as it gives it the lock
+    abbrev sleeps_there : Flat
+    sleeps_there = cond (is_ordinary script (Some l)) (record (before e.task) { state = sleep_of (call_at script e.task (place_at s e.task)) }) (before e.task)
 
-    queued : blocking own_task.blocked ≡ Some l → before e.task ≡ fields spinning own_task
-    queued at = ap (λ (o : Option LockId). fields (spins_in script o) own_task) at
+    abbrev taken : Bool → Flat
+    taken waiting = cond (is_ordinary script (Some l)) (cond waiting (record (before e.task) { state = states.Running }) (before e.task)) (before e.task)
 
-    -- a task that is queued
-    waits-fit : own_task.blocked ≡ None → asleep ≡ fields spinning (blocked_on (Some l) (rest_of (kind_of (thread_part s e.task) l) (call_of (thread_part s e.task))) own_task)
-    waits-fit none =
-        let call = call_of (thread_part s e.task) in
-        (λ i. cond (not spinning) (record (free none i) { state = sleep_of (calling i) }) (free none i))
-        ∙ (sym (blocked_on-fields spinning (Some l) call own_task)
-        ∙ ap (λ (b : Bool). fields spinning (blocked_on (Some l) (cond b states.LockWait (sleep_of call)) own_task)) (sym known))
+    sleeps-is : sleeps_there ≡ flat_asleep spinning (call_of own_thread) (before e.task)
+    sleeps-is = λ i. cond (not (known i)) (record (before e.task) { state = sleep_of (calling i) }) (before e.task)
 
-    -- one that sleeps again
-    sleeps-fit : blocking own_task.blocked ≡ Some l → asleep ≡ flat_at script (record own_task { state = rest_of (kind_of (thread_part s e.task) l) (call_of (thread_part s e.task)) })
-    sleeps-fit at =
-        let call = call_of (thread_part s e.task) in
-        (λ i. cond (not spinning) (record (queued at i) { state = sleep_of (calling i) }) (queued at i))
-        ∙ (sym (asleep-fields spinning call own_task)
-        ∙ (ap (λ (b : Bool). fields spinning (record own_task { state = cond b states.LockWait (sleep_of call) })) (sym known)
-        ∙ ap (λ (o : Option LockId). fields (spins_in script o) (record own_task { state = rest_of (kind_of (thread_part s e.task) l) call })) (sym at)))
+    restored-is : taken true ≡ flat_restored spinning (before e.task)
+    restored-is = λ i. cond (not (known i)) (record (before e.task) { state = states.Running }) (before e.task)
 
-    -- one that leaves the queue
-    left-fit : blocking own_task.blocked ≡ Some l → woken ≡ fields false out_of_queue
-    left-fit at =
-        (λ i. cond (not spinning) (record (queued at i) { state = states.Running }) (queued at i))
-        ∙ (sym (leave_queue-fields spinning own_task (sym (is_queued own_task.blocked) ∙ ap (λ (o : Option LockId). is_some o) at))
-        ∙ ap (λ (b : Bool). fields false (leave_queue b own_task)) (sym known))
+    waited-is : waits_in own_thread own_task ≡ true → taken (waits_in own_thread own_task) ≡ flat_restored spinning (before e.task)
+    waited-is was = ap taken was ∙ restored-is
 
-    -- and one that takes the lock, queued or not
-    takes-left : blocking own_task.blocked ≡ Some l → taken ≡ fields false out_of_queue
-    takes-left at =
-        ap (λ (b : Bool). cond (not spinning) (cond b (record (before e.task) { state = states.Running }) (before e.task)) (before e.task)) (sym (is_queued own_task.blocked) ∙ ap (λ (o : Option LockId). is_some o) at)
-        ∙ left-fit at
+    unwaited-is : waits_in own_thread own_task ≡ false → taken (waits_in own_thread own_task) ≡ before e.task
+    unwaited-is was = ap taken was ∙ chosen_same (is_ordinary script (Some l)) (before e.task)
 
-    takes-free : own_task.blocked ≡ None → taken ≡ fields false out_of_queue
-    takes-free none =
-        ap (λ (blocked : Option (LockId × ℕ)). cond (not spinning) (cond (is_some blocked) (record (before e.task) { state = states.Running }) (before e.task)) (before e.task)) none
-        ∙ (chosen_same (not spinning) (before e.task)
-        ∙ (free none
-        ∙ ap (λ (blocked : Option (LockId × ℕ)). fields false (cond (is_some blocked) (record (restored (spins (kind_of (thread_part s e.task) l)) own_task) { blocked = None }) own_task)) (sym none)))
+    -- a task that takes the lock, queued or not
+    queued-there : blocking own_task.blocked ≡ Some l → is_some own_task.blocked ≡ true
+    queued-there at = sym (is_queued own_task.blocked) ∙ ap (λ (o : Option LockId). is_some o) at
 
-    takes-fit : TakesIn s e.task l → taken ≡ fields false out_of_queue
-    takes-fit (from_slow asks) = takes-free (slow-blocked s made e.task lawful asks.call asks.at)
-    takes-fit (from_wait asks awake) = takes-left (asks-awaited s made e.task lawful phases.Wait l asks)
-    takes-fit (from_trying tries) = takes-free (start-blocked s made e.task lawful tries.call tries.at)
+    takes_queued : blocking own_task.blocked ≡ Some l → flat_restored spinning (before e.task) ≡ flat_at out_of_queue
+    takes_queued at = sym (leave_queue-fields spinning own_task (queued-there at) (queued at))
 
-    -- it isn't blocked any more
-    out : fields false out_of_queue ≡ flat_at script out_of_queue
-    out = ap (λ (blocked : Option (LockId × ℕ)). fields (spins_in script (blocking blocked)) out_of_queue) (sym (leave_queue-blocked (spins (kind_of (thread_part s e.task) l)) own_task))
+    takes_free : own_task.blocked ≡ None → has_slept own_thread.phase ≡ false → taken (waits_in own_thread own_task) ≡ flat_at out_of_queue
+    takes_free none up =
+        unwaited-is (λ i. is_some (none i) || up i)
+        ∙ ap (λ (blocked : Option (LockId × ℕ)). flat_at (cond (is_some blocked) (record (restored spinning own_task) { blocked = None }) own_task)) (sym none)
+
+    left-fit : IsLeft s e.task l e → taken true ≡ flat_at out_of_queue
+    left-fit is = restored-is ∙ takes_queued (ap blocking (left-blocked s made e.task l e lawful is).1)
+
+    takes-fit : TakesIn s e.task l → taken (waits_in own_thread own_task) ≡ flat_at out_of_queue
+    takes-fit (from_slow asks) = takes_free (slow-blocked s made e.task lawful asks.call asks.at) (ap has_slept asks.at.phased)
+    takes-fit (from_trying tries) = takes_free (start-blocked s made e.task lawful tries.call tries.at) (ap has_slept tries.at.phased)
+    takes-fit (from_wait asks awake) =
+        let at = asks-awaited s made e.task lawful phases.Wait l asks in
+        waited-is (or_left _ (has_slept own_thread.phase) (queued-there at)) ∙ takes_queued at
+
+    -- a writer that goes to sleep, or sleeps again
+    sleeps-fit : (phase : Phase) (x : Event) → IsMade s e.task l phase (calls.Write l) x e
+        → flat_at (writer_rests phase (rest_of (kind_of own_thread l) (call_of own_thread)) own_task) ≡ flat_asleep spinning (call_of own_thread) (before e.task)
+        → sleeps_there ≡ flat_at (writer_rests own_thread.phase (rest_of (kind_of own_thread l) (call_of own_thread)) own_task)
+    sleeps-fit phase x is fields = sleeps-is ∙ (sym fields ∙ ap (λ (p : Phase). flat_at (writer_rests p (rest_of (kind_of own_thread l) (call_of own_thread)) own_task)) (sym is.at.phased))
 
   -- ---- of one that its lock wakes
 
   fits_lock : (x : Event) (l : LockId) → e ≡ x → sets_own x.kind ≡ false → is_wakeup x.kind ≡ false → x.lock ≡ Some l → (touched x.kind x).woken ≡ x.woken
       → SlotsThere (touched x.kind x) (length s.tasks)
-      → ((lock : OwnerPart) (task : TaskPart) → (effect_in (shared s) (thread_part s x.task) x).woken lock task ≡ lock_woken (spins (kind_of (thread_part s e.task) l)) task)
-      → (u : TaskId) → u.0 < length s.threads → (owned_by x.woken u ≡ true → blocking (task_part s u).blocked ≡ Some l) → Fits u
-  fits_lock x l is own wakeup lock named slots wakes_it u lt blocked =
+      → ((lock : OwnerPart) (task : TaskPart) → (effect_in (shared s) (thread_part s x.task) x).woken lock task ≡ lock_woken (spinning l) task) → (u : TaskId) → Fits u
+  fits_lock x l is own wakeup lock named slots wakes_it u =
       ap (λ (y : Event). flat_after script u (place_at s u) y (before u)) is
       ∙ (after-lock_woken script u (place_at s u) x (before u) own wakeup
-      ∙ (ap (λ (o : Option LockId). cond (owned_by x.woken u) (cond (is_ordinary script o) (flat_woken (before u)) (before u)) (before u)) lock
-      ∙ slots-made Keeps Keeps Keeps (λ task. made_of ≡ flat_at script task) s e x u is slots (KeepsStates-itself (task_part s u)) (λ task keeps. keeps-own (task_part s u) x.kind x th own found (lock_left (shared s) th x) task keeps) (record {
+      ∙ ((λ i. cond (owned_by x.woken u) (cond (is_ordinary script (lock i)) (flat_woken (before u)) (before u)) (before u))
+      ∙ slots-made Keeps Keeps Keeps (λ task. made_of ≡ flat_at task) s e x u is slots (KeepsStates-itself (task_part s u)) (λ task keeps. keeps-own (task_part s u) x.kind x th own found (lock_left (shared s) th x) task keeps) (record {
         owner = λ task keeps its. keeps-owner (task_part s u) x.kind x th found (lock_left (shared s) th x) task keeps;
         not_owner = λ task keeps its. keeps;
         other = λ task keeps its. keeps-other (task_part s u) x.kind x th wakeup found (lock_left (shared s) th x) task keeps;
         not_other = λ task keeps its. keeps;
         woken = λ task keeps its. woken-fit task keeps (sym (ap (λ (o : Option TaskId). owned_by o u) named) ∙ its);
-        not_woken = λ task keeps its. cond-false (owned_by x.woken u) _ (before u) (sym (ap (λ (o : Option TaskId). owned_by o u) named) ∙ its) ∙ sym (flat-kept script (task_part s u) task keeps);
+        not_woken = λ task keeps its. cond-false (owned_by x.woken u) _ (before u) (sym (ap (λ (o : Option TaskId). owned_by o u) named) ∙ its) ∙ sym (flat-kept (task_part s u) task keeps);
       })))
     where
       Keeps : TaskPart → Type 0
@@ -394,26 +559,25 @@ module _ (script : Script) (s : State) (made : ℕ) (e : Event) (lawful : IsLawf
       found = around (shared s) (touched x.kind x)
 
       made_of : Flat
-      made_of = cond (owned_by x.woken u) (cond (not (spins_in script (Some l))) (flat_woken (before u)) (before u)) (before u)
+      made_of = cond (owned_by x.woken u) (cond (is_ordinary script (Some l)) (flat_woken (before u)) (before u)) (before u)
 
-      woken-fit : (task : TaskPart) → Keeps task → owned_by x.woken u ≡ true → made_of ≡ flat_at script ((effect_in (shared s) th x).woken (lock_left (shared s) th x) task)
+      woken-fit : (task : TaskPart) → Keeps task → owned_by x.woken u ≡ true → made_of ≡ flat_at ((effect_in (shared s) th x).woken (lock_left (shared s) th x) task)
       woken-fit task keeps its =
-          cond-true (owned_by x.woken u) (cond (not (spins_in script (Some l))) (flat_woken (before u)) (before u)) (before u) its
-          ∙ (ap (λ (flat : Flat). cond (not (spins_in script (Some l))) (flat_woken flat) flat) (sym (flat-kept script (task_part s u) task keeps))
-          ∙ (sym (lock_woken-flat script l task (keeps.blocked ∙ blocked its) (rests-kept script (task_part s u) task keeps (rests script s scripted u lawful.states lt)))
-          ∙ (ap (λ (b : Bool). flat_at script (lock_woken b task)) (sym (known l)) ∙ ap (flat_at script) (sym (wakes_it (lock_left (shared s) th x) task)))))
+          cond-true (owned_by x.woken u) (cond (is_ordinary script (Some l)) (flat_woken (before u)) (before u)) (before u) its
+          ∙ ((λ i. cond (not (known l i)) (flat_woken (sym (flat-kept (task_part s u) task keeps) i)) (sym (flat-kept (task_part s u) task keeps) i))
+          ∙ (sym (lock_woken-fields (spinning l) task (saves-kept (task_part s u) task keeps (saves u))) ∙ ap flat_at (sym (wakes_it (lock_left (shared s) th x) task))))
 
   -- ---- of the target of a wakeup or a signal
 
-  fits_target : (v : TaskId) (n : ℕ) (reply : Option Reply) → v.0 < length s.threads → e ≡ targeted e.task v n reply → (u : TaskId) → u.0 < length s.threads → Fits u
-  fits_target v n reply within is u lt =
+  fits_target : (v : TaskId) (n : ℕ) (reply : Option Reply) → v.0 < length s.threads → e ≡ targeted e.task v n reply → (u : TaskId) → Fits u
+  fits_target v n reply within is u =
       ap (λ (y : Event). flat_after script u (place_at s u) y (before u)) is
       ∙ (after-wakeup script u (place_at s u) (targeted e.task v n reply) (before u) refl refl refl
-      ∙ other-made (λ task. made_of ≡ flat_at script task) (KeepsStates (task_part s u)) s e (targeted e.task v n reply) u is (slots_there s (targeted e.task v n reply) lawful.shape tt within tt) (KeepsStates-itself (task_part s u))
+      ∙ other-made (λ task. made_of ≡ flat_at task) (KeepsStates (task_part s u)) s e (targeted e.task v n reply) u is (slots_there s (targeted e.task v n reply) lawful.shape tt within tt) (KeepsStates-itself (task_part s u))
       (λ task keeps. keeps) (λ task keeps. keeps)
       (λ task keeps its. cond-true (nat_eq v.0 u.0) (flat_woken_by n (before u)) (before u) its
-      ∙ (ap (flat_woken_by n) (sym (flat-kept script (task_part s u) task keeps)) ∙ sym (woken_by-flat script n task (rests-kept script (task_part s u) task keeps (rests script s scripted u lawful.states lt)))))
-      (λ task keeps its. cond-false (nat_eq v.0 u.0) (flat_woken_by n (before u)) (before u) its ∙ sym (flat-kept script (task_part s u) task keeps))
+      ∙ (ap (flat_woken_by n) (sym (flat-kept (task_part s u) task keeps)) ∙ sym (woken_by-fields n task (saves-kept (task_part s u) task keeps (saves u)))))
+      (λ task keeps its. cond-false (nat_eq v.0 u.0) (flat_woken_by n (before u)) (before u) its ∙ sym (flat-kept (task_part s u) task keeps))
       (λ task same. same))
     where
       made_of : Flat
@@ -421,71 +585,64 @@ module _ (script : Script) (s : State) (made : ℕ) (e : Event) (lawful : IsLawf
 
   -- ---- of each event
 
-  left_queue : (l : LockId) (is : IsLeft s e.task l e) → blocking (task_part s e.task).blocked ≡ Some l
-  left_queue l is = ap blocking (left-blocked s made e.task l e lawful is).1
-
   fits_left : (l : LockId) → IsLeft s e.task l e → (u : TaskId) → Fits u
   fits_left l (by_leave is) =
       let its : IsLeft s e.task l e = by_leave is in
-      fits_own _ (left-is s e.task l e its) refl refl
-      (ap (λ (flat : Flat). record flat { signal = false }) (left-fit l (left_queue l its) ∙ out l) ∙ ap (flat_at script) (sym (left-own s made e.task l e lawful its)))
+      fits_own _ (left-is s e.task l e its) refl refl (ap (λ (flat : Flat). record flat { signal = false }) (left-fit l its) ∙ ap flat_at (sym (left-own s made e.task l e lawful its)))
   fits_left l (by_cycle path o m rest is round owned) =
       let its : IsLeft s e.task l e = by_cycle path o m rest is round owned in
-      fits_own _ (left-is s e.task l e its) refl refl
-      (left-fit l (left_queue l its) ∙ (out l ∙ ap (flat_at script) (sym (left-own s made e.task l e lawful its))))
+      fits_own _ (left-is s e.task l e its) refl refl (left-fit l its ∙ ap flat_at (sym (left-own s made e.task l e lawful its)))
 
   fits_take : (l : LockId) → IsTake s e.task l e → (u : TaskId) → Fits u
   fits_take l is =
       let task = out_of_queue l in
       fits_slot _ is.event refl refl refl
-      (takes-fit l is.how ∙ (out l ∙ sym (flat-kept script task _ (with_top-keeps task (Some l) (top_key (taken_by e.task (owner_part s l)).rows) task (KeepsStates-itself task)))))
+      (takes-fit l is.how ∙ sym (flat-kept task _ (with_top-keeps task (Some l) (top_key (taken_by e.task (owner_part s l)).rows) task (KeepsStates-itself task))))
 
   -- its task isn't blocked, and this becomes its state
-  fits_state : (x : Event) (state : TaskState) → e ≡ x → wakes_other x.kind ≡ false → x.woken ≡ None → (touched x.kind x).own ≡ Some e.task
+  fits_state : (x : Event) (state : TaskState) (call : Call) → e ≡ x → wakes_other x.kind ≡ false → x.woken ≡ None → (touched x.kind x).own ≡ Some e.task → IsIn s e.task phases.Start call → (IsRested false own_task → state ≢ states.LockWait)
       → own_made x ≡ record (before e.task) { state = state }
-      → ((lock : OwnerPart) (task : TaskPart) → (effect_in (shared s) (thread_part s x.task) x).own lock task ≡ record task { state = state }) → (task_part s e.task).blocked ≡ None → (u : TaskId) → Fits u
-  fits_state x state is others none named same becomes free =
+      → ((lock : OwnerPart) (task : TaskPart) → (effect_in (shared s) (thread_part s x.task) x).own lock task ≡ record task { state = state }) → (u : TaskId) → Fits u
+  fits_state x state call is others none named at ne same becomes =
+      let rested = free (start-blocked s made e.task lawful call at) (ap has_slept at.phased) in
       fits_slot x is others none named
-      (same ∙ (ap (λ (blocked : Option (LockId × ℕ)). fields (spins_in script (blocking blocked)) (record (task_part s e.task) { state = state })) (sym free)
-      ∙ ap (flat_at script) (sym (becomes (lock_left (shared s) (thread_part s x.task) x) (task_part s e.task)))))
+      (same ∙ (sym (set-fields state own_task (ne rested) rested)
+      ∙ ap flat_at (sym (becomes (lock_left (shared s) (thread_part s x.task) x) own_task))))
 
-  fits_give : (l : LockId) → IsGive s e.task l e → (u : TaskId) → u.0 < length s.threads → Fits u
-  fits_give l is u lt =
+  -- a writer that gets in at once touches no task
+  fits_writer : (l : LockId) (call : Call) → IsMade s e.task l phases.WTry call (wtake_event e.task l None) e → (u : TaskId) → Fits u
+  fits_writer l call is =
+      fits_own _ is.event refl refl
+      (unwaited-is l (λ i. is_some (idle-blocked s made e.task lawful phases.WTry call is.at refl i) || has_slept (is.at.phased i)) ∙ ap (λ (y : Event). flat_at (task_part (state_after s y) e.task)) (sym is.event))
+
+  fits : Changes s e.task e → (u : TaskId) → Fits u
+  fits (nothing own others none) = fits_nothing own others none
+  fits (waits l is) =
+      fits_slot _ is.event refl refl refl (sleeps-is l ∙ sym (put_to_rest-fields (spinning l) (call_of own_thread) own_task (free (slow-blocked s made e.task lawful is.at.call is.at.at) (ap has_slept is.at.at.phased))))
+  fits (sleeps_again l is) = fits_slot _ is.event refl refl refl (sleeps-is l ∙ sym (put_back-fields (spinning l) (call_of own_thread) own_task is.state))
+  fits (takes l is) = fits_take l is
+  fits (leaves l is) = fits_left l is
+  fits (sets state is) =
+      fits_state _ (state_numbered (state_number state)) (calls.State state) is.event refl refl refl is.at (λ rested. (rested-set (state_number state) own_task (rested-states false own_task rested)).0) refl (λ lock task. refl)
+  fits (schedules is) = fits_state _ states.Running calls.Schedule is.event refl refl refl is.at (λ rested same. cc) refl (λ lock task. refl)
+  fits (wakes v n reply within is) = fits_target v n reply within is
+  fits (gives l is) =
       fits_lock _ l is.event refl refl refl refl
-      (slots_there s (give_event e.task l (owner_part s l) (task_part s e.task)) lawful.shape tt tt (top_within (length s.threads) (owner_part s l).rows (rows_within s l lawful.shape is.at.lock)))
-      (λ lock task. refl) u lt
-      (blocked-there u l (owner_part s l).rows (task_part s u).blocked (lawful.rows.rows l u))
-
-  fits_walk : (route : Route) (v : TaskId) (l : LockId) (key : ℕ) → IsWalk s e.task route v l key e → RowsLaw (state_after s e) (suc made) → (u : TaskId) → u.0 < length s.threads → Fits u
-  fits_walk route v l key is rows u lt = fits_lock _ l is.event refl refl refl refl (link-slots s made e.task route v l key e lawful is) (λ lock task. refl) u lt blocked
-    where
-      after : OwnerPart
-      after = link_lock s made e.task route v l key e lawful is
-
-      link : owner_part (state_after s e) l ≡ after
-      link =
-          link-locks s made e.task route v l key e lawful is (λ m lock. nat_eq l.0 m.0 ≡ true → lock ≡ after) l (λ same. refl)
-          (λ ne same. absurd (other_number l.0 l.0 ne refl)) (number_itself l.0)
-
-      blocked : owned_by (newly_top (owner_part s l) after) u ≡ true → blocking (task_part s u).blocked ≡ Some l
-      blocked tops =
-          sym (blocking-kept s e _ u is.event refl)
-          ∙ blocked-there u l after.rows (task_part (state_after s e) u).blocked (sym (ap (λ (lock : OwnerPart). queued_key u lock.rows) link) ∙ rows.rows l u) (newly-top u (owner_part s l) after tops)
-
-  fits : RowsLaw (state_after s e) (suc made) → Changes s e.task e → (u : TaskId) → u.0 < length s.threads → Fits u
-  fits rows (nothing own others none) u lt = fits_nothing own others none u
-  fits rows (waits l is) u lt = fits_slot _ is.event refl refl refl (waits-fit l (slow-blocked s made e.task lawful is.at.call is.at.at)) u
-  fits rows (sleeps_again l is) u lt = fits_slot _ is.event refl refl refl (sleeps-fit l (asks-awaited s made e.task lawful phases.Wait l is.at)) u
-  fits rows (takes l is) u lt = fits_take l is u
-  fits rows (leaves l is) u lt = fits_left l is u
-  fits rows (sets state is) u lt = fits_state _ (state_numbered (state_number state)) is.event refl refl refl refl (λ lock task. refl) (start-blocked s made e.task lawful (calls.State state) is.at) u
-  fits rows (goes_on is) u lt = fits_state _ states.Running is.event refl refl refl refl (λ lock task. refl) (start-blocked s made e.task lawful calls.Schedule is.at) u
-  fits rows (wakes v n reply there is) u lt = fits_target v n reply there is u lt
-  fits rows (gives l is) u lt = fits_give l is u lt
-  fits rows (walks route v l key is) u lt = fits_walk route v l key is rows u lt
+      (slots_there s (give_event (call_of own_thread) e.task l (owner_part s l) own_task) lawful.shape tt tt (top_within (length s.threads) (owner_part s l).rows (rows_within s l lawful.shape is.at.lock))) (λ lock task. refl)
+  fits (walks route v l key is) = fits_lock _ l is.event refl refl refl refl (link-slots s made e.task route v l key e lawful is) (λ lock task. refl)
+  fits (writes l call is) = fits_writer l call is
+  fits (writes_late l is) =
+      fits_slot _ is.event refl refl refl
+      (waited-is l (or_right (is_some own_task.blocked) _ (ap has_slept is.at.phased)) ∙ sym (restored-fields (spinning l) own_task (asleep l _ is)))
+  fits (sleeps_for l is) =
+      fits_slot _ is.event refl refl refl
+      (sleeps-fit l phases.WTry _ is (put_to_rest-fields (spinning l) (call_of own_thread) own_task (free (idle-blocked s made e.task lawful phases.WTry (calls.Write l) is.at refl) (ap has_slept is.at.phased))))
+  fits (sleeps_on l is runs) = fits_slot _ is.event refl refl refl (sleeps-fit l phases.WWait _ is (put_back-fields (spinning l) (call_of own_thread) own_task runs))
+  fits (wakes_sleeper l is) =
+      fits_lock _ l is.event refl refl refl refl (slots_there s (wwake_event e.task l (owner_part s l)) lawful.shape tt tt (owner_within s l lawful.shape is.lock)) (λ lock task. refl)
 
   -- so what the task has is what the event makes of it
-  pub tracks : RowsLaw (state_after s e) (suc made) → IsNext s e.task e → (u : TaskId) → u.0 < length s.threads → track_event script u (tracked_at script s u) e ≡ tracked_at script (state_after s e) u
-  tracks rows next u lt =
+  pub tracks : IsNext s e.task e → (u : TaskId) → track_event script u (tracked_at s u) e ≡ tracked_at (state_after s e) u
+  tracks next u =
       let how = changes s made e.task e lawful next in
-      λ i. record { seen = place_left s made e lawful u there how i; flat = fits rows how u lt i }
+      λ i. record { seen = place_left s made e lawful next there u how i; flat = fits how u i }

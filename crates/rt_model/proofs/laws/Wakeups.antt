@@ -1,12 +1,14 @@
 -- The states of tasks and the answers of wakeups along a run are the flat wakeup machine's.
-use Rattle.std.proofs.Common.{◌≡◌, ℕ, suc, ◌+◌, ◌<◌, Bool, true, false, cond, List, [], ◌∷◌, ◌++◌, length, refl, sym, ap, ◌∙◌, subst, Option, Some, None}
+use Rattle.std.proofs.Common.{◌≡◌, ℕ, suc, ◌+◌, Bool, true, false, ◌||◌, List, [], ◌∷◌, ◌++◌, length, refl, sym, ap, ◌∙◌, subst, Option, Some, None}
 use Rattle.std.specs.Prelude.{is_some, nat_lt}
 use Rattle.std.specs.List.{fold}
 use Rattle.rt_base.specs.Script.{Script, TaskLine}
 use Rattle.rt_base.specs.declared.call.Call.{Call}
 use Rattle.rt_base.specs.declared.call.Call.TheVariants as calls
+use Rattle.rt_base.specs.declared.id.LockId.{LockId}
 use Rattle.rt_base.specs.declared.id.TaskId.{TaskId}
 use Rattle.rt_base.specs.declared.kind.Kind.{Kind}
+use Rattle.rt_base.specs.declared.kind.Kind.TheVariants.{RwSem}
 use Rattle.rt_base.specs.declared.reply.Reply.{Reply}
 use Rattle.rt_base.specs.declared.reply.Reply.TheVariants as replies
 use Rattle.rt_model.specs.declared.event.Event.{Event}
@@ -14,84 +16,85 @@ use Rattle.rt_model.specs.declared.event_kind.EventKind.TheVariants as kinds
 use Rattle.rt_model.specs.declared.phase.Phase.{Phase}
 use Rattle.rt_model.specs.declared.phase.Route.{Route}
 use Rattle.rt_model.specs.declared.phase.Route.TheVariants.{Full}
-use Rattle.rt_model.specs.Parts.{TaskPart, ThreadPart}
-use Rattle.rt_model.specs.Stage.{IsServed, IsToCome}
+use Rattle.rt_model.specs.Parts.{TaskPart, ThreadPart, call_of}
+use Rattle.rt_model.specs.Stage.{IsToCome}
 use Rattle.rt_model.specs.steps.Chain.{answer_of_walk}
+use Rattle.rt_model.specs.steps.Readers.{without_reader, wakes_writer}
+use Rattle.rt_model.specs.steps.Thread.{got_answer, released_answer}
 use Rattle.rt_model.specs.events.Own.{if_held, if_not_held, unless_nested, private_answer}
-use Rattle.rt_model.specs.State.{State, start, fresh_task, fresh_thread, kinds_in, no_task, no_thread, task_part, thread_part}
+use Rattle.rt_model.specs.State.{State, start, fresh_task, fresh_thread, kinds_in, no_task, no_thread, reader_part, task_part, thread_part}
 use Rattle.rt_model.specs.StateAfter.{state_after}
 use Rattle.rt_model.specs.Run.{after, IsRun}
 use Rattle.rt_model.specs.laws.Flat.{first_seen, Flat, first_flat, flat_answer, is_wakeup, Tracked, track_event, flat_of}
 use Rattle.rt_model.specs.laws.Lawful.{IsLawful}
 use Rattle.rt_model.specs.laws.Shape.{IsOf}
+use Rattle.rt_model.specs.laws.States.{has_slept, waits_spinning}
 use Rattle.rt_model.specs.laws.Wakeups.{flat_state, tells_wakeup, WakeupsLaw}
 use Rattle.std.proofs.lemmas.Bool.{cond_both}
 use Rattle.rt_model.proofs.ToCome.{to_come-holds, answered-holds}
 use Rattle.rt_model.proofs.Lists.{All-read, All-made}
-use Rattle.rt_model.proofs.NextEvents.{IsNext, by_own, by_acquire, by_wait, by_release, by_walk, by_confirm, by_wakeup, by_setprio}
-use Rattle.rt_model.proofs.Prefixes.{run-prefix, run-next, run-lawful, lawful-there, next-there, next-task, IsOf-along}
+use Rattle.rt_model.proofs.NextEvents.{IsNext, by_own, by_acquire, by_wait, by_release, by_reading, by_walk, by_confirm, by_wakeup, by_setprio}
+use Rattle.rt_model.proofs.Prefixes.{run-prefix, run-next, run-lawful, lawful-there, next-there, next-task}
+use Rattle.rt_model.proofs.Reading.{reading-kind}
 use Rattle.rt_model.proofs.Starts.{IsOf-start}
-use Rattle.rt_model.proofs.Waiters.{blocking}
 use Rattle.rt_model.proofs.events.Acquire.{is_fast, is_mark, is_take, is_busy}
 use Rattle.rt_model.proofs.events.Wait.{is_wait, is_again, is_leave}
+use Rattle.rt_model.proofs.events.Readers.{IsReading, reading-holds}
 use Rattle.rt_model.proofs.events.Release.{is_free, is_give}
 use Rattle.rt_model.proofs.events.Wakeups.{is_state, is_sched, is_wake, is_signal}
 use Rattle.rt_model.proofs.events.Walk.{WalksIn, by_full, by_short, is_walk, is_walkend, is_restart, is_cycle}
-use Rattle.rt_model.proofs.laws.Shape.{IsOf-after, IsOf-threads}
-use Rattle.rt_model.proofs.laws.Flat.{spins_in, fields, flat_at, wake-answer, signal-answer}
+use Rattle.rt_model.proofs.laws.Shape.{IsOf-after}
+use Rattle.rt_model.proofs.laws.Flat.{flat_at, rested-beneath, rested-saves, wake-answer, signal-answer}
 use Rattle.rt_model.proofs.laws.Holders.{other_kind}
-use Rattle.rt_model.proofs.laws.Tracked.{spins-of, rests, tracked_at, targeted, tracks}
+use Rattle.rt_model.proofs.laws.Tracked.{tracked_at, targeted, tracks}
 
 -- ---- along a run
 
-along : (script : Script) (s : State) (made : ℕ) (events : List Event) → IsLawful s made → IsOf script s → IsRun s events → (u : TaskId) → u.0 < length script.tasks
-    → fold (track_event script u) (tracked_at script s u) events ≡ tracked_at script (after s events) u
-along script s made [] lawful scripted run u lt = refl
-along script s made (e ∷ events) lawful scripted run u lt =
+along : (script : Script) (s : State) (made : ℕ) (events : List Event) → IsLawful s made → IsOf script s → IsRun s events → (u : TaskId) → fold (track_event script u) (tracked_at s u) events ≡ tracked_at (after s events) u
+along script s made [] lawful scripted run u = refl
+along script s made (e ∷ events) lawful scripted run u =
     let there = next-task s e.task e run.0 in
     let left = run-lawful s made e events lawful run in
-    let within = subst (λ (n : ℕ). u.0 < n) (sym (IsOf-threads script s scripted)) lt in
-    ap (λ (at : Tracked). fold (track_event script u) at events) (tracks script s made e lawful scripted there left.rows (run-next s made e events lawful run) u within)
-    ∙ along script (state_after s e) (suc made) events left (IsOf-after script s e there scripted) run.1 u lt
+    ap (λ (at : Tracked). fold (track_event script u) at events) (tracks script s made e lawful scripted there (run-next s made e events lawful run) u)
+    ∙ along script (state_after s e) (suc made) events left (IsOf-after script s e there scripted) run.1 u
 
 -- at the start no call is answered, and each task runs
 task-start : (script : Script) (P : TaskPart → Type 0) (t : TaskId) → ((n own : ℕ) → P (fresh_task n own)) → P (task_part (start script) t)
 task-start script P t holds =
     All-read P (start script).tasks t.0 no_task (All-made P (λ (line : TaskLine). fresh_task (length script.locks) line.own) (λ line. holds (length script.locks) line.own) script.tasks) (holds 0 0)
 
-thread-start : (script : Script) (t : TaskId) → (thread_part (start script) t).answered ≡ 0
-thread-start script t =
-    let fresh : TaskLine → ThreadPart = λ line. fresh_thread (kinds_in script) line.calls line.cpu in
-    All-read (λ (thread : ThreadPart). thread.answered ≡ 0) (start script).threads t.0 no_thread (All-made (λ (thread : ThreadPart). thread.answered ≡ 0) fresh (λ line. refl) script.tasks) refl
+thread-start : (script : Script) (P : ThreadPart → Type 0) (t : TaskId) → ((line : TaskLine) → P (fresh_thread (kinds_in script) line.calls line.cpu)) → P no_thread → P (thread_part (start script) t)
+thread-start script P t holds none = All-read P (start script).threads t.0 no_thread (All-made P (λ (line : TaskLine). fresh_thread (kinds_in script) line.calls line.cpu) holds script.tasks) none
 
-tracked-start : (script : Script) (t : TaskId) → record { seen = first_seen; flat = first_flat } ≡ tracked_at script (start script) t
-tracked-start script t = λ i. record {
-  seen = record { answered = sym (thread-start script t) i; queued = sym (task-start script (λ task. is_some task.blocked ≡ false) t (λ n own. refl)) i };
-  flat = sym (task-start script (λ task. flat_at script task ≡ first_flat) t (λ n own. refl)) i;
-}
+tracked-start : (script : Script) (t : TaskId) → record { seen = first_seen; flat = first_flat } ≡ tracked_at (start script) t
+tracked-start script t =
+    let blocked = task-start script (λ task. is_some task.blocked ≡ false) t (λ n own. refl) in
+    let phase = thread-start script (λ thread. has_slept thread.phase ≡ false) t (λ line. refl) refl in
+    λ i. record {
+      seen = record { answered = sym (thread-start script (λ thread. thread.answered ≡ 0) t (λ line. refl) refl) i; waiting = sym blocked i || sym phase i };
+      flat = sym (task-start script (λ task. flat_at task ≡ first_flat) t (λ n own. refl)) i;
+    }
 
 -- ---- the law
 
 -- an answer of a wakeup or a signal
-record IsAnswered (script : Script) (s : State) (e : Event) : Type 0 where
+record IsAnswered (s : State) (e : Event) : Type 0 where
   target : TaskId
-  there : target.0 < length s.threads
   named : e.other ≡ Some target
-  answer : e.reply ≡ Some (flat_answer e.value (flat_at script (task_part s target)))
+  answer : e.reply ≡ Some (flat_answer e.value (flat_at (task_part s target)))
 
-module _ (script : Script) (s : State) (made : ℕ) (e : Event) (lawful : IsLawful s made) (scripted : IsOf script s) where
+module _ (s : State) (made : ℕ) (e : Event) (lawful : IsLawful s made) where
   -- one that comes about as a wakeup or a signal
-  answers_as : (v : TaskId) (n : ℕ) (reply : Reply) → v.0 < length s.threads → e ≡ targeted e.task v n (Some reply) → reply ≡ flat_answer n (flat_at script (task_part s v)) → IsAnswered script s e
-  answers_as v n reply within is same = record {
+  answers_as : (v : TaskId) (n : ℕ) (reply : Reply) → e ≡ targeted e.task v n (Some reply) → reply ≡ flat_answer n (flat_at (task_part s v)) → IsAnswered s e
+  answers_as v n reply is same = record {
     target = v;
-    there = within;
     named = ap (λ (x : Event). x.other) is;
-    answer = ap (λ (x : Event). x.reply) is ∙ (ap Some same ∙ sym (ap (λ (x : Event). Some (flat_answer x.value (flat_at script (task_part s v)))) is));
+    answer = ap (λ (x : Event). x.reply) is ∙ (ap Some same ∙ sym (ap (λ (x : Event). Some (flat_answer x.value (flat_at (task_part s v)))) is));
   }
 
-  answered : IsNext s e.task e → is_wakeup e.kind ≡ true → IsAnswered script s e
-  answered (by_wakeup (is_wake v is)) wakeup = answers_as v 0 _ is.at.served is.event (wake-answer (spins_in script (blocking (task_part s v).blocked)) (task_part s v) (rests script s scripted v lawful.states is.at.served))
-  answered (by_wakeup (is_signal v is)) wakeup = answers_as v 1 _ is.at.served is.event (signal-answer (spins_in script (blocking (task_part s v).blocked)) (task_part s v) (rests script s scripted v lawful.states is.at.served))
+  answered : IsNext s e.task e → is_wakeup e.kind ≡ true → IsAnswered s e
+  answered (by_wakeup (is_wake v is)) wakeup = answers_as v 0 _ is.event (wake-answer (task_part s v))
+  answered (by_wakeup (is_signal v is)) wakeup = answers_as v 1 _ is.event (signal-answer (task_part s v) (rested-saves (waits_spinning (thread_part s v) (task_part s v)) (task_part s v) (lawful.states v)))
   answered (by_wakeup (is_state state is)) wakeup = absurd (other_kind is_wakeup e _ is.event refl wakeup)
   answered (by_wakeup (is_sched is)) wakeup = absurd (other_kind is_wakeup e _ is.event refl wakeup)
   answered (by_own call answer is) wakeup = absurd (other_kind is_wakeup e _ is.event refl wakeup)
@@ -104,6 +107,9 @@ module _ (script : Script) (s : State) (made : ℕ) (e : Event) (lawful : IsLawf
   answered (by_wait l (is_leave is)) wakeup = absurd (other_kind is_wakeup e _ is.event refl wakeup)
   answered (by_release l (is_free is)) wakeup = absurd (other_kind is_wakeup e _ is.event refl wakeup)
   answered (by_release l (is_give is)) wakeup = absurd (other_kind is_wakeup e _ is.event refl wakeup)
+  answered (by_reading l is) wakeup =
+      let quiet : is_wakeup e.kind ≡ false = reading-kind (λ kind. is_wakeup kind ≡ false) s e.task l e is (record { rin = refl; busy = refl; rout = refl; wwake = refl; unbias = refl; wtake = refl; wsleep = refl; wopen = refl }) in
+      absurd cc
   answered (by_walk route u (is_walk l key is)) wakeup = absurd (other_kind is_wakeup e _ is.event refl wakeup)
   answered (by_walk route u (is_walkend is)) wakeup = absurd (other_kind is_wakeup e _ is.event refl wakeup)
   answered (by_confirm l path (is_restart link is)) wakeup = absurd (other_kind is_wakeup e _ is.event refl wakeup)
@@ -126,20 +132,50 @@ quiet-not_held false = refl
 quiet-nested : (n : ℕ) (reply : Option Reply) → Quiet reply → Quiet (unless_nested n reply)
 quiet-nested n reply quiet = cond_both (nat_lt 0 n) (Some replies.Nesting) reply Quiet (λ is. refl) (λ is. quiet)
 
-quiet-own : (m l : ℕ) (call : Call) (kind : Option Kind) (nested : ℕ) (held : Bool) (migration : ℕ) → IsServed m l call → Quiet (private_answer call kind nested held migration)
-quiet-own m n (calls.Lock l) kind nested held migration served = quiet-nested nested (if_held held) (quiet-held held)
-quiet-own m n (calls.LockInt l) kind nested held migration served = quiet-nested nested (if_held held) (quiet-held held)
-quiet-own m n (calls.Spin l) kind nested held migration served = quiet-held held
-quiet-own m n (calls.Unlock l) kind nested held migration served = quiet-not_held held
-quiet-own m n (calls.Unspin l) kind nested held migration served = quiet-not_held held
-quiet-own m n calls.Schedule kind nested held migration served = quiet-nested nested None refl
-quiet-own m n (calls.TryLock l) kind nested held migration served = refl
-quiet-own m n (calls.TrySpin l) kind nested held migration served = refl
-quiet-own m n (calls.State state) kind nested held migration served = refl
-quiet-own m n (calls.Wake u) kind nested held migration served = refl
-quiet-own m n (calls.Signal u) kind nested held migration served = refl
-quiet-own m n (calls.SetPrio u prio) kind nested held migration served = refl
-quiet-own m n _ kind nested held migration served = absurd served
+quiet-read : (l : LockId) (kind : Option Kind) (nested : ℕ) (held : Bool) (migration : ℕ) → Quiet (private_answer (calls.Read l) kind nested held migration)
+quiet-read l (Some RwSem) nested held migration = quiet-nested nested (if_held held) (quiet-held held)
+quiet-read l _ nested held migration = quiet-held held
+
+quiet-write : (l : LockId) (kind : Option Kind) (nested : ℕ) (held : Bool) (migration : ℕ) → Quiet (private_answer (calls.Write l) kind nested held migration)
+quiet-write l (Some RwSem) nested held migration = quiet-nested nested (if_held held) (quiet-held held)
+quiet-write l _ nested held migration = quiet-held held
+
+quiet-own : (call : Call) (kind : Option Kind) (nested : ℕ) (held : Bool) (migration : ℕ) → Quiet (private_answer call kind nested held migration)
+quiet-own (calls.Lock l) kind nested held migration = quiet-nested nested (if_held held) (quiet-held held)
+quiet-own (calls.LockInt l) kind nested held migration = quiet-nested nested (if_held held) (quiet-held held)
+quiet-own (calls.Spin l) kind nested held migration = quiet-held held
+quiet-own (calls.Local l) kind nested held migration = quiet-held held
+quiet-own (calls.Read l) kind nested held migration = quiet-read l kind nested held migration
+quiet-own (calls.Write l) kind nested held migration = quiet-write l kind nested held migration
+quiet-own (calls.Unlock l) kind nested held migration = quiet-not_held held
+quiet-own (calls.Unspin l) kind nested held migration = quiet-not_held held
+quiet-own (calls.Unread l) kind nested held migration = quiet-not_held held
+quiet-own (calls.Unwrite l) kind nested held migration = quiet-not_held held
+quiet-own (calls.Downgrade l) kind nested held migration = quiet-not_held held
+quiet-own (calls.Unlocal l) kind nested held migration = quiet-not_held held
+quiet-own calls.Schedule kind nested held migration = quiet-nested nested None refl
+quiet-own (calls.Move cpu) kind nested held migration = cond_both (nat_lt 0 migration) (Some replies.Pinned) None Quiet (λ is. refl) (λ is. refl)
+quiet-own _ kind nested held migration = refl
+
+-- nor that of an acquire, or of a release
+quiet-got : (call : Option Call) → Quiet (got_answer call)
+quiet-got (Some (calls.Read l)) = refl
+quiet-got (Some (calls.Write l)) = refl
+quiet-got (Some (calls.TryWrite l)) = refl
+quiet-got _ = refl
+
+quiet-released : (call : Option Call) → Quiet (Some (released_answer call))
+quiet-released (Some (calls.Read l)) = refl
+quiet-released (Some (calls.TryWrite l)) = refl
+quiet-released _ = refl
+
+quiet-reading : (s : State) (t : TaskId) (l : LockId) (e : Event) → IsReading s t l e → Quiet e.reply
+quiet-reading s t l e is =
+    reading-holds (λ phase x. Quiet x.reply) s t l e is
+    (record {
+      read = refl; let_in = refl; shut = refl; tryshut = refl; out = cond_both (wakes_writer (without_reader (reader_part s l))) None (Some replies.Done) Quiet (λ last. refl) (λ more. refl); wwake = refl; unbias = refl;
+      written = refl; late = refl; sleep = refl; again = refl; given_up = refl; opened = refl; downgraded = refl;
+    })
 
 -- a walk's answer is one that was to come
 quiet-to_come : (call : Call) (answer : Reply) → IsToCome call answer → Quiet (Some answer)
@@ -163,16 +199,17 @@ wakes s t e (by_wakeup (is_signal v is)) told = ap (λ (x : Event). x.kind) is.e
 wakes s t e (by_wakeup (is_state state is)) told = absurd (others e _ is.event refl told)
 wakes s t e (by_wakeup (is_sched is)) told = absurd (others e _ is.event refl told)
 wakes s t e (by_own call answer is) told =
-    absurd (others e _ is.event (subst Quiet is.why (quiet-own (length s.threads) (length s.locks) call _ _ _ _ is.at.served)) told)
-wakes s t e (by_acquire l (is_fast is)) told = absurd (others e _ is.event refl told)
+    absurd (others e _ is.event (subst Quiet is.why (quiet-own call _ _ _ _)) told)
+wakes s t e (by_acquire l (is_fast is)) told = absurd (others e _ is.event (quiet-got (call_of (thread_part s t))) told)
 wakes s t e (by_acquire l (is_mark is)) told = absurd (others e _ is.event refl told)
-wakes s t e (by_acquire l (is_take is)) told = absurd (others e _ is.event refl told)
+wakes s t e (by_acquire l (is_take is)) told = absurd (others e _ is.event (quiet-got (call_of (thread_part s t))) told)
 wakes s t e (by_acquire l (is_busy is)) told = absurd (others e _ is.event refl told)
 wakes s t e (by_wait l (is_wait is)) told = absurd (others e _ is.event refl told)
 wakes s t e (by_wait l (is_again is)) told = absurd (others e _ is.event refl told)
 wakes s t e (by_wait l (is_leave is)) told = absurd (others e _ is.event (answered-holds Quiet replies.Interrupted _ refl refl) told)
-wakes s t e (by_release l (is_free is)) told = absurd (others e _ is.event refl told)
-wakes s t e (by_release l (is_give is)) told = absurd (others e _ is.event refl told)
+wakes s t e (by_release l (is_free is)) told = absurd (others e _ is.event (quiet-released (call_of (thread_part s t))) told)
+wakes s t e (by_release l (is_give is)) told = absurd (others e _ is.event (quiet-released (call_of (thread_part s t))) told)
+wakes s t e (by_reading l is) told = absurd (others e e refl (quiet-reading s t l e is) told)
 wakes s t e (by_walk route u (is_walk l key is)) told = absurd (others e _ is.event (quiet-walk s t route u _ is.how) told)
 wakes s t e (by_walk route u (is_walkend is)) told = absurd (others e _ is.event (quiet-walk s t route u None is.how) told)
 wakes s t e (by_confirm l path (is_restart link is)) told = absurd (others e _ is.event refl told)
@@ -180,35 +217,27 @@ wakes s t e (by_confirm l path (is_cycle is)) told = absurd (others e _ is.event
 wakes s t e (by_setprio u prio is) told = absurd (others e _ is.event (answered-holds Quiet replies.Done _ refl refl) told)
 
 module _ (script : Script) (events : List Event) (lawful : IsLawful (start script) 0) (run : IsRun (start script) events) where
-  there : (prefix rest : List Event) → prefix ++ rest ≡ events → IsOf script (after (start script) prefix)
-  there prefix rest is = IsOf-along script (start script) prefix (IsOf-start script) (run-prefix (start script) prefix rest (subst (IsRun (start script)) (sym is) run))
-
   -- the two fields of a task after a prefix
-  flat-there : (prefix rest : List Event) (t : TaskId) → prefix ++ rest ≡ events → t.0 < length script.tasks → flat_of script t prefix ≡ flat_at script (task_part (after (start script) prefix) t)
-  flat-there prefix rest t is lt =
+  flat-there : (prefix rest : List Event) (t : TaskId) → prefix ++ rest ≡ events → flat_of script t prefix ≡ flat_at (task_part (after (start script) prefix) t)
+  flat-there prefix rest t is =
       ap (λ (at : Tracked). (fold (track_event script t) at prefix).flat) (tracked-start script t)
-      ∙ ap (λ (at : Tracked). at.flat)
-      (along script (start script) 0 prefix lawful (IsOf-start script) (run-prefix (start script) prefix rest (subst (IsRun (start script)) (sym is) run)) t lt)
+      ∙ ap (λ (at : Tracked). at.flat) (along script (start script) 0 prefix lawful (IsOf-start script) (run-prefix (start script) prefix rest (subst (IsRun (start script)) (sym is) run)) t)
 
-  state-there : (prefix rest : List Event) (t : TaskId) → prefix ++ rest ≡ events → t.0 < length script.tasks
-      → flat_state (thread_part (after (start script) prefix) t) (task_part (after (start script) prefix) t) ≡ (flat_of script t prefix).state
-  state-there prefix rest t is lt =
+  state-there : (prefix rest : List Event) (t : TaskId) → prefix ++ rest ≡ events → flat_state (thread_part (after (start script) prefix) t) (task_part (after (start script) prefix) t) ≡ (flat_of script t prefix).state
+  state-there prefix rest t is =
       let s = after (start script) prefix in
-      let within = subst (λ (n : ℕ). t.0 < n) (sym (IsOf-threads script s (there prefix rest is))) lt in
-      ap (λ (b : Bool). cond b (task_part s t).saved (task_part s t).state) (spins-of script s (there prefix rest is) t (task_part s t).blocked within) ∙ sym (ap (λ (flat : Flat). flat.state) (flat-there prefix rest t is lt))
+      rested-beneath (waits_spinning (thread_part s t) (task_part s t)) (task_part s t) ((lawful-there (start script) 0 events lawful run prefix rest is).states t) ∙ sym (ap (λ (flat : Flat). flat.state) (flat-there prefix rest t is))
 
   answer-there : (prefix rest : List Event) (e : Event) → prefix ++ e ∷ rest ≡ events → e.kind ≡ kinds.Wake → (u : TaskId) × (e.other ≡ Some u) × (e.reply ≡ Some (flat_answer e.value (flat_of script u prefix)))
   answer-there prefix rest e is kind =
       let s = after (start script) prefix in
-      let scripted = there prefix (e ∷ rest) is in
-      let its = answered script s _ e (lawful-there (start script) 0 events lawful run prefix (e ∷ rest) is) scripted (next-there (start script) 0 events lawful run prefix rest e is) (ap is_wakeup kind) in
-      let lt = subst (λ (n : ℕ). its.target.0 < n) (IsOf-threads script s scripted) its.there in
-      (its.target, its.named, its.answer ∙ sym (ap (λ (flat : Flat). Some (flat_answer e.value flat)) (flat-there prefix (e ∷ rest) its.target is lt)))
+      let its = answered s _ e (lawful-there (start script) 0 events lawful run prefix (e ∷ rest) is) (next-there (start script) 0 events lawful run prefix rest e is) (ap is_wakeup kind) in
+      (its.target, its.named, its.answer ∙ sym (ap (λ (flat : Flat). Some (flat_answer e.value flat)) (flat-there prefix (e ∷ rest) its.target is)))
 
   pub wakeups-law : WakeupsLaw script events
   wakeups-law = record {
-    states = state-there;
-    signals = λ prefix rest t is lt. sym (ap (λ (flat : Flat). flat.signal) (flat-there prefix rest t is lt));
+    states = λ prefix rest t is lt. state-there prefix rest t is;
+    signals = λ prefix rest t is lt. sym (ap (λ (flat : Flat). flat.signal) (flat-there prefix rest t is));
     answers = answer-there;
     told = λ prefix rest e is told. wakes (after (start script) prefix) e.task e (next-there (start script) 0 events lawful run prefix rest e is) told;
   }

@@ -3,6 +3,8 @@ use Rattle.std.proofs.Common.{◌≡◌, ◌≢◌, inl, ℕ, ◌<◌, Bool, tru
 use Rattle.std.specs.Prelude.{nat_eq}
 use Rattle.std.proofs.lemmas.List.Elements.{All-nil}
 use Rattle.std.proofs.lemmas.Bool.{cond-false}
+use Rattle.rt_base.specs.declared.call.Call.{Call}
+use Rattle.rt_base.specs.declared.call.Call.TheVariants as calls
 use Rattle.rt_base.specs.declared.id.LockId.{LockId}
 use Rattle.rt_base.specs.declared.id.TaskId.{TaskId}
 use Rattle.rt_base.specs.declared.limits.TheConstants.{MAX_LINKS}
@@ -13,7 +15,7 @@ use Rattle.rt_model.specs.declared.phase.Phase.{Phase}
 use Rattle.rt_model.specs.declared.phase.Phase.TheVariants as phases
 use Rattle.rt_model.specs.declared.phase.Route.{Route}
 use Rattle.rt_model.specs.declared.phase.Route.TheVariants.{Full, Short}
-use Rattle.rt_model.specs.Parts.{TaskPart, ThreadPart}
+use Rattle.rt_model.specs.Parts.{TaskPart, ThreadPart, call_of}
 use Rattle.rt_model.specs.Choice.{present_lock}
 use Rattle.rt_model.specs.State.{State, shared, owner_part, task_part, thread_part}
 use Rattle.rt_model.specs.Rules.{touched}
@@ -21,6 +23,7 @@ use Rattle.rt_model.specs.StateAfter.{effect_in, thread_after, state_after}
 use Rattle.rt_model.specs.events.Wait.{phase_after_wait}
 use Rattle.rt_model.specs.steps.Chain.{followed, goes_on}
 use Rattle.rt_model.specs.steps.Task.{with_own}
+use Rattle.rt_model.specs.steps.Thread.{phase_after_got, got_answer, answered_with}
 use Rattle.rt_model.specs.laws.Lawful.{IsLawful}
 use Rattle.rt_model.specs.laws.Owners.{owned_by}
 use Rattle.rt_model.specs.laws.Queued.{awaited_in}
@@ -30,10 +33,11 @@ use Rattle.rt_model.proofs.Calm.{wakeup-threads}
 use Rattle.rt_model.proofs.Leaves.{IsLeft, left_answer, left_made, left-is, left-there, left-lock_there, left-thread, leave-left, cycle-left}
 use Rattle.rt_model.proofs.Links.{walked_thread, link-thread, end-thread, setprio-thread}
 use Rattle.rt_model.proofs.Lists.{length-update, length-at_lock}
-use Rattle.rt_model.proofs.NextEvents.{IsNext, by_own, by_acquire, by_wait, by_release, by_walk, by_confirm, by_wakeup, by_setprio}
+use Rattle.rt_model.proofs.NextEvents.{IsNext, by_own, by_acquire, by_wait, by_release, by_reading, by_walk, by_confirm, by_wakeup, by_setprio}
 use Rattle.rt_model.proofs.Numbers.{other_way}
 use Rattle.rt_model.proofs.PartsAfter.{thread-made}
 use Rattle.rt_model.proofs.Paths.{full-goes, full-confirms, full-room}
+use Rattle.rt_model.proofs.Reading.{is_idle, reading-threads}
 use Rattle.rt_model.proofs.Routes.{full-holds, short-holds}
 use Rattle.rt_model.proofs.Waiters.{blocking, slow-unowned, walk-phase, walk-link}
 use Rattle.rt_model.proofs.Within.{owner_within}
@@ -45,6 +49,20 @@ use Rattle.rt_model.proofs.events.Walk.{IsWalk, is_walk, is_walkend, is_restart,
 -- the thread is so of task t, among n tasks and m locks
 abbrev Walking : ℕ → ℕ → TaskId → ThreadPart → Type 0
 Walking n m t thread = IsWalkOf n m t (present_lock thread) thread.phase
+
+-- ---- a thread that doesn't walk
+
+idle_walks : (n m : ℕ) (t : TaskId) (lock : Option LockId) (phase : Phase) → is_idle phase ≡ true → IsWalkOf n m t lock phase
+idle_walks n m t lock (phases.Walk cursor route) idle = cc
+idle_walks n m t lock (phases.Confirm path) idle = cc
+idle_walks n m t lock _ idle = tt
+
+-- one that has acquired an owner part
+got_walks : (n m : ℕ) (t : TaskId) (thread : ThreadPart) (call : Option Call) → Walking n m t (answered_with (record thread { phase = phase_after_got call thread.phase }) (got_answer call))
+got_walks n m t thread (Some (calls.Read l)) = tt
+got_walks n m t thread (Some (calls.Write l)) = tt
+got_walks n m t thread (Some (calls.TryWrite l)) = tt
+got_walks n m t thread _ = tt
 
 -- ---- a walk begins
 
@@ -135,9 +153,9 @@ WalksLaw-next s made t e lawful next v =
 
     by_kind : IsNext s t e → Walking n m v (thread_part (state_after s e) v)
     by_kind (by_own call answer is) = own _ is.event is.at.task tt
-    by_kind (by_acquire l (is_fast is)) = own _ is.event is.task tt
-    by_kind (by_acquire l (is_mark is)) = own _ is.event is.at.at.task tt
-    by_kind (by_acquire l (is_take is)) = own _ is.event is.task tt
+    by_kind (by_acquire l (is_fast is)) = own _ is.event is.task (got_walks n m t (thread_part s t) (call_of (thread_part s t)))
+    by_kind (by_acquire l (is_mark is)) = own _ is.event is.task tt
+    by_kind (by_acquire l (is_take is)) = own _ is.event is.task (got_walks n m t (thread_part s t) (call_of (thread_part s t)))
     by_kind (by_acquire l (is_busy is)) = own _ is.event is.at.at.task tt
     by_kind (by_wait l (is_wait is)) =
         let lock = asks-lock s t phases.Slow l is.at in
@@ -145,8 +163,9 @@ WalksLaw-next s made t e lawful next v =
         (wait_walks n m (thread_part s t) t l (owner_part s l).owner _ is.at.at.task lock (asks-present s t phases.Slow l is.at) (slow-unowned s made t lawful l is.at) (owner_within s l lawful.shape lock))
     by_kind (by_wait l (is_again is)) = own _ is.event is.at.at.task (lawful.walks t)
     by_kind (by_wait l (is_leave is)) = left l (leave-left s t l e is)
-    by_kind (by_release l (is_free is)) = own _ is.event is.at.at.task tt
-    by_kind (by_release l (is_give is)) = own _ is.event is.at.at.task tt
+    by_kind (by_release l (is_free is)) = own _ is.event is.at.task tt
+    by_kind (by_release l (is_give is)) = own _ is.event is.at.task tt
+    by_kind (by_reading l is) = reading-threads s t l e is (Walking n m) v (λ thread idle. idle_walks n m t (present_lock thread) thread.phase idle) (lawful.walks v)
     by_kind (by_walk route u (is_walk l key is)) =
         let link = walk-link s made t route u l key e lawful is in
         own _ is.event is.task

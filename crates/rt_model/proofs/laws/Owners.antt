@@ -219,6 +219,10 @@ module _ (s : State) (t : TaskId) (l : LockId) (room : l.0 < length (thread_part
       → Leaves thread (With thread phase answer) l hold.owns
   writes_hold phase call answer hold writes calling = answered thread (With thread phase answer) l hold room refl (holds_at (record thread { phase = phase }) call answer calling ∙ writes)
 
+  -- got, by a call that then holds the lock, and not for reading
+  got : (call : Call) → holds_after thread (Some call) replies.Got ≡ with_hold thread l true → call_of thread ≡ Some call → Leaves thread (With thread thread.phase replies.Got) l true
+  got call = writes_hold thread.phase call replies.Got (record (hold_of thread l) { owns = true })
+
   -- a step to a phase in which it has the inner lock
   enters : (phase : Phase) (call : Call) → has_inner phase ≡ true → called_lock thread.cpu call ≡ Some l → (hold_of thread l).owns ≡ gives_back phase (Some call) → call_of thread ≡ Some call
       → Leaves thread (record thread { phase = phase }) l true
@@ -231,9 +235,6 @@ module _ (s : State) (t : TaskId) (l : LockId) (room : l.0 < length (thread_part
       (acquiring-holds (λ c. call_of thread ≡ Some c → Leaves thread (Got thread (Some c)) l true) is.call l is.acquires
       (got (calls.Lock l) refl) (got (calls.LockInt l) refl) (got (calls.Spin l) refl) (got (calls.TryLock l) refl) (got (calls.TrySpin l) refl)
       (enters phases.ReadIn (calls.Read l) refl refl unheld) (enters phases.Unbias (calls.Write l) refl refl unheld) (enters phases.Unbias (calls.TryWrite l) refl refl unheld) is.calling)
-    where
-      got : (call : Call) → holds_after thread (Some call) replies.Got ≡ with_hold thread l true → call_of thread ≡ Some call → Leaves thread (With thread thread.phase replies.Got) l true
-      got call = writes_hold thread.phase call replies.Got (record (hold_of thread l) { owns = true })
 
   -- a release
   released : OwnersLaw s → Returns s t l → Leaves thread (answered_with thread (Some (released_answer (call_of thread)))) l false
@@ -259,8 +260,8 @@ module _ (s : State) (t : TaskId) (l : LockId) (room : l.0 < length (thread_part
 -- ---- readers and writers
 
 -- an event at a reader part leaves its thread with the owner part of the lock, or without it, as it was; a writer has it
-pub record Steps (s : State) (t : TaskId) (l : LockId) (e : Event) : Type 0 where
-  pub owns : Bool
+record Steps (s : State) (t : TaskId) (l : LockId) (e : Event) : Type 0 where
+  owns : Bool
   was : owns ≡ owned_by (owner_part s l).owner t
   leaves : Leaves (thread_part s t) (thread_after (shared s) (thread_part s t) e) l owns
   writers : is_writers e.kind ≡ true → owns ≡ true
@@ -303,10 +304,7 @@ steps s made t l e lawful reading = by_kind reading
     gets phase call x is inner writes left =
         has phase call x is (inside-owned s t l lawful.owners phase call is.at inner (writes-holds (λ c. called_lock thread.cpu c ≡ Some l) call l writes refl refl))
         (subst (λ (th : ThreadPart). Leaves thread th l true) (sym left)
-        (writes-holds (λ c. call_of thread ≡ Some c → Leaves thread (With thread thread.phase replies.Got) l true) call l writes (got (calls.Write l) refl) (got (calls.TryWrite l) refl) is.at.calling))
-      where
-        got : (c : Call) → holds_after thread (Some c) replies.Got ≡ with_hold thread l true → call_of thread ≡ Some c → Leaves thread (With thread thread.phase replies.Got) l true
-        got c = writes_hold s t l room thread.phase c replies.Got (record (hold_of thread l) { owns = true })
+        (writes-holds (λ c. call_of thread ≡ Some c → Leaves thread (With thread thread.phase replies.Got) l true) call l writes (got s t l room (calls.Write l) refl) (got s t l room (calls.TryWrite l) refl) is.at.calling))
 
     -- who leaves, or downgrades, is on its way out
     opens : (call : Call) (x : Event) → IsMade s t l phases.Start call x e → (hold_of thread l).owns ≡ true → called_lock thread.cpu call ≡ Some l → gives_back phases.Release (Some call) ≡ true

@@ -200,7 +200,7 @@ module _ (s : State) (made : ℕ) (t : TaskId) (e : Event) (lawful : IsLawful s 
           let inside : is_inside thread l ≡ true = inside-at thread l l (ap has_inner at.phased) (present-at s t phases.Release is.call (Some l) at lock) ∙ number_itself l.0 in
           ap (λ (b : Bool). has_readers (kind_of thread l) && (hold_of thread l).owns && not b) inside ∙ and_right _ false refl
 
-  pub finds : IsNext s t e → IfSome e.lock (λ l. Finds e.kind t (owner_part s l).owner (reader_part s l).writer)
+  finds : IsNext s t e → IfSome e.lock (λ l. Finds e.kind t (owner_part s l).owner (reader_part s l).writer)
   finds next = by_kind next
     where
       Found : Event → Type 0

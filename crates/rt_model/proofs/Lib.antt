@@ -1,6 +1,7 @@
 -- lists, numbers, what a thread's holds count, and the rows of a lock
 pub mod Lists
 pub mod Numbers
+pub mod Counts
 pub mod Holds
 pub mod CellStepLemmas
 pub mod Queues

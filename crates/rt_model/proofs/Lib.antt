@@ -16,6 +16,7 @@ pub mod PartsAfter
 pub mod Blocked
 pub mod Calm
 pub mod Reading
+pub mod Looks
 pub mod TaskStates
 -- what an event reads and writes
 pub mod Frame

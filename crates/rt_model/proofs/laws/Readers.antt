@@ -1,7 +1,7 @@
 -- A next event keeps the readers law.
 use Rattle.std.proofs.Common.{◌≡◌, inl, inr, ℕ, ◌+◌, ◌-◌, ◌<◌, ◌≤◌, Bool, true, false, cond, not, ◌&&◌, ◌||◌, List, [], length, refl, sym, ap, ◌∙◌, subst, arith, Option, Some, None, IfSome, unwrap_or}
 use Rattle.std.specs.Prelude.{slice_get, slice_set, nat_eq, nat_lt, option_map, option_and_then}
-use Rattle.std.proofs.lemmas.Bool.{and_from}
+use Rattle.std.proofs.lemmas.Bool.{and_from, cond_both}
 use Rattle.std.proofs.lemmas.Bool.Decides.{nat_tests}
 use Rattle.rt_base.specs.declared.call.Call.{Call}
 use Rattle.rt_base.specs.declared.call.Call.TheVariants as calls
@@ -29,16 +29,19 @@ use Rattle.rt_model.specs.steps.Chain.{followed, goes_on}
 use Rattle.rt_model.specs.steps.Readers.{can_read, with_reader, without_reader, wakes_writer, unbiased, can_write, with_writer, without_writer}
 use Rattle.rt_model.specs.steps.Task.{with_own, wake_answer, signal_answer}
 use Rattle.rt_model.specs.steps.Thread.{phase_after_got, got_answer, released_answer, phase_after_busy, with_hold, holds_after, answered_with}
-use Rattle.rt_model.specs.events.Own.{private_answer, own_answer}
+use Rattle.rt_model.specs.events.Own.{unless_nested, if_held, if_not_held, private_answer, own_answer}
 use Rattle.rt_model.specs.events.Readers.{phase_after_rin, rout_event}
 use Rattle.rt_model.specs.events.Wait.{phase_after_wait}
 use Rattle.rt_model.specs.laws.Lawful.{IsLawful}
 use Rattle.rt_model.specs.laws.Owners.{owned_by, has_owner_part, OwnersLaw, gives_back}
 use Rattle.rt_model.specs.laws.Readers.{is_closing, is_writing, of_owner, going, readers_by, all_readers, ReadersLaw}
 use Rattle.rt_model.proofs.Counts.{sum-update, sum-part}
-use Rattle.rt_model.proofs.Numbers.{number_itself, at_each_task, at_each_lock, one_owner, owner-is, nobodys}
+use Rattle.rt_model.proofs.Numbers.{number_itself, other_number, at_each_task, at_each_lock, one_owner, owner-is, nobodys}
 use Rattle.rt_model.proofs.Looks.{Look, look, look_of, plain_look, writing, off, has_part, reading, is_plain, plain-phase, plain-elsewhere, Facts, Turn, Flags, as_were, by_own, Quiet, quiet-turn, plain-quiet}
-use Rattle.rt_model.proofs.PartsAfter.{readers-kept, changes_readers, thread-own, thread-other}
+use Rattle.rt_model.proofs.Calling.{IsIn}
+use Rattle.rt_model.proofs.Inside.{present-at}
+use Rattle.rt_model.proofs.PartsAfter.{read-set_same, read-set_other, readers-made, readers-kept, changes_readers, thread-own, thread-other}
+use Rattle.rt_model.proofs.Within.{holds_room, readers_room}
 
 -- ---- what a lawful state says of a look
 
@@ -168,3 +171,192 @@ module _ (s : State) (made : ℕ) (t : TaskId) (e : Event) (lawful : IsLawful s 
       writer_left : (m : LockId) → Turned m → (reader_part (state_after s e) m).writer ≡ of_owner (λ thread. is_writing thread m) (state_after s e) (owner_part (state_after s e) m).owner
       writer_left m (as_were closed writes bias writer) = writer ∙ (lawful.readers.writer m ∙ sym (same-owner m (λ thread. is_writing thread m) (writing-part m) s (state_after s e) t lawful.owners owners others writes))
       writer_left m (by_own has bias writer) = writer ∙ sym (own-owner m (λ thread. is_writing thread m) (writing-part m) s (state_after s e) t lawful.owners owners others has)
+
+-- ---- what an answer leaves of the holds
+
+-- this is held of the lock, and of every other what was
+record Holding (thread : ThreadPart) (l : LockId) (hold : Hold) (holds : List Hold) : Type 0 where
+  here : unwrap_or (slice_get holds l.0) (record { owns = false; reads = 0 }) ≡ hold
+  there : (m : LockId) → nat_eq l.0 m.0 ≡ false → unwrap_or (slice_get holds m.0) (record { owns = false; reads = 0 }) ≡ hold_of thread m
+
+-- a thread answers a call at once with none of the answers that change its holds
+abbrev refuses : Reply → Bool
+refuses replies.Deadlock = true
+refuses replies.NotOwner = true
+refuses replies.Nesting = true
+refuses replies.Pinned = true
+refuses _ = false
+
+abbrev Refused : Option Reply → Type 0
+Refused reply = IfSome reply (λ answer. refuses answer ≡ true)
+
+if_held-refused : (held : Bool) → Refused (if_held held)
+if_held-refused true = refl
+if_held-refused false = tt
+
+if_not_held-refused : (held : Bool) → Refused (if_not_held held)
+if_not_held-refused true = tt
+if_not_held-refused false = refl
+
+nested-refused : (nested : ℕ) (answer : Option Reply) → Refused answer → Refused (unless_nested nested answer)
+nested-refused nested answer is = cond_both (nat_lt 0 nested) (Some replies.Nesting) answer Refused (λ inside. refl) (λ out. is)
+
+private-refused : (call : Call) (kind : Option Kind) (nested : ℕ) (held : Bool) (migration : ℕ) → Refused (private_answer call kind nested held migration)
+private-refused (calls.Lock l) kind nested held migration = nested-refused nested (if_held held) (if_held-refused held)
+private-refused (calls.LockInt l) kind nested held migration = nested-refused nested (if_held held) (if_held-refused held)
+private-refused (calls.Spin l) kind nested held migration = if_held-refused held
+private-refused (calls.Local l) kind nested held migration = if_held-refused held
+private-refused (calls.Read l) (Some locks.RwSem) nested held migration = nested-refused nested (if_held held) (if_held-refused held)
+private-refused (calls.Write l) (Some locks.RwSem) nested held migration = nested-refused nested (if_held held) (if_held-refused held)
+private-refused (calls.Read l) _ nested held migration = if_held-refused held
+private-refused (calls.Write l) _ nested held migration = if_held-refused held
+private-refused (calls.Unlock l) kind nested held migration = if_not_held-refused held
+private-refused (calls.Unspin l) kind nested held migration = if_not_held-refused held
+private-refused (calls.Unread l) kind nested held migration = if_not_held-refused held
+private-refused (calls.Unwrite l) kind nested held migration = if_not_held-refused held
+private-refused (calls.Downgrade l) kind nested held migration = if_not_held-refused held
+private-refused (calls.Unlocal l) kind nested held migration = if_not_held-refused held
+private-refused calls.Schedule kind nested held migration = nested-refused nested None tt
+private-refused (calls.Move cpu) kind nested held migration = cond_both (nat_lt 0 migration) (Some replies.Pinned) None Refused (λ pinned. refl) (λ free. tt)
+private-refused _ kind nested held migration = tt
+
+refused-holds : (thread : ThreadPart) (call : Option Call) (answer : Reply) → refuses answer ≡ true → holds_after thread call answer ≡ thread.holds
+refused-holds thread (Some (calls.Lock l)) replies.Deadlock is = refl
+refused-holds thread call replies.Got is = cc
+refused-holds thread call replies.Done is = cc
+refused-holds thread call answer is = refl
+
+-- ---- events that change a lock's reader part at most, and what their thread is at that lock
+
+module _ (s : State) (made : ℕ) (t : TaskId) (e : Event) (lawful : IsLawful s made) (owners : OwnersLaw (state_after s e)) where
+  abbrev th : ThreadPart
+  th = thread_part s t
+
+  -- an event x that leaves its thread so
+  record IsEvent (x : Event) (left : ThreadPart) : Type 0 where
+    is : e ≡ x
+    own : x.task ≡ t
+    there : t.0 < length s.threads
+    thread : thread_after (shared s) (thread_part s x.task) x ≡ left
+
+  left-thread : (x : Event) (left : ThreadPart) → IsEvent x left → thread_part (state_after s e) t ≡ left
+  left-thread x left event =
+      subst (λ (v : TaskId). v.0 < length s.threads → thread_part (state_after s e) v ≡ thread_after (shared s) (thread_part s x.task) x) event.own (thread-own s e x event.is) event.there ∙ event.thread
+
+  abbrev Turns : LockId → ThreadPart → Type 0
+  Turns m left = Facts (look th m) (reader_part s m) → Turn (look th m) (look left m) (reader_part s m) (reader_part (state_after s e) m)
+
+  turned-so : (x : Event) (left : ThreadPart) → IsEvent x left → ((m : LockId) → Turns m left) → ReadersLaw (state_after s e)
+  turned-so x left event turns =
+      turned s made t e lawful owners (ap (λ (y : Event). y.task) event.is ∙ event.own) event.there (λ m. subst (Turns m) (sym (left-thread x left event)) (turns m))
+
+  -- the reader part of the lock is left so, and every other as it was
+  record Cells (l : LockId) (left : ReaderCell) : Type 0 where
+    here : reader_part (state_after s e) l ≡ left
+    others : (m : LockId) → nat_eq l.0 m.0 ≡ false → reader_part (state_after s e) m ≡ reader_part s m
+
+  kept : (l : LockId) (x : Event) → e ≡ x → changes_readers x.kind ≡ false → Cells l (reader_part s l)
+  kept l x is keeps = record { here = readers-kept s e x l is keeps; others = λ m ne. readers-kept s e x m is keeps }
+
+  changed : (l : LockId) (x : Event) → e ≡ x → (touched x.kind x).readers ≡ Some l → l.0 < length s.locks → Cells l ((effect_in (shared s) (thread_part s x.task) x).readers (reader_part s l))
+  changed l x is named lt = record {
+    here = readers-made (λ m cell. nat_eq m.0 l.0 ≡ true → cell ≡ f (reader_part s l)) s e x l l is named room (λ same. refl) (λ ne. absurd (other_number l.0 l.0 ne refl)) (number_itself l.0);
+    others = λ m ne. readers-made (λ k cell. nat_eq l.0 k.0 ≡ false → cell ≡ reader_part s k) s e x l m is named room (λ itself. absurd (other_number l.0 l.0 itself refl)) (λ also apart. refl) ne;
+  }
+    where
+      f : ReaderCell → ReaderCell
+      f = (effect_in (shared s) (thread_part s x.task) x).readers
+
+      room : l.0 < length s.readers
+      room = readers_room s l lawful.shape lt
+
+  -- ---- a thread with no call on its way, before and after, and the same holds
+
+  record Keeps (left : ThreadPart) : Type 0 where
+    before : is_plain th.phase ≡ true
+    after : is_plain left.phase ≡ true
+    kinds : left.kinds ≡ th.kinds
+    holds : left.holds ≡ th.holds
+    more : th.answered ≤ left.answered
+
+  plainly : (x : Event) (left : ThreadPart) → IsEvent x left → changes_readers x.kind ≡ false → Keeps left → ReadersLaw (state_after s e)
+  plainly x left event keeps plain = turned-so x left event turns
+    where
+      turns : (m : LockId) → Turns m left
+      turns m known = subst (Turn (look th m) (look left m) (reader_part s m)) (sym (kept m x event.is keeps).here) (quiet-turn (look th m) (look left m) (reader_part s m) known still)
+        where
+          rw : Bool
+          rw = has_readers (kind_of th m)
+
+          was : look th m ≡ plain_look rw (hold_of th m) th.answered
+          was = plain-phase th.phase (call_of th) (is_on (present_lock th) m) rw (hold_of th m) th.answered plain.before
+
+          is : look left m ≡ plain_look rw (hold_of th m) left.answered
+          is = (λ i. look_of left.phase (call_of left) (is_on (present_lock left) m) (has_readers (unwrap_or (slice_get (plain.kinds i) m.0) locks.Mutex)) (unwrap_or (slice_get (plain.holds i) m.0) (record { owns = false; reads = 0 })) left.answered)
+              ∙ plain-phase left.phase (call_of left) (is_on (present_lock left) m) rw (hold_of th m) left.answered plain.after
+
+          still : Quiet (look th m) (look left m)
+          still = subst (λ (b : Look). Quiet b (look left m)) (sym was) (subst (Quiet (plain_look rw (hold_of th m) th.answered)) (sym is) (plain-quiet rw (hold_of th m) (hold_of th m) th.answered left.answered refl refl known.few plain.more))
+
+  -- ---- a thread whose call is on a lock
+
+  module _ (l : LockId) (phase : Phase) (call : Call) (at : IsIn s t phase call) (about : called_lock th.cpu call ≡ Some l) where
+    abbrev kind : Bool
+    kind = has_readers (kind_of th l)
+
+    on : is_on (present_lock th) l ≡ true
+    on = ap (λ (lock : Option LockId). is_on lock l) (present-at s t phase call (Some l) at about) ∙ number_itself l.0
+
+    off_others : (m : LockId) → nat_eq l.0 m.0 ≡ false → is_on (present_lock th) m ≡ false
+    off_others m ne = ap (λ (lock : Option LockId). is_on lock m) (present-at s t phase call (Some l) at about) ∙ ne
+
+    -- what it is there, in any phase
+    seen : (p : Phase) → look (record th { phase = p }) l ≡ look_of p (Some call) true kind (hold_of th l) th.answered
+    seen p = λ i. look_of p (at.calling i) (on i) kind (hold_of th l) th.answered
+
+    -- and at every other lock
+    elsewhere : (p : Phase) (m : LockId) → nat_eq l.0 m.0 ≡ false → look (record th { phase = p }) m ≡ plain_look (has_readers (kind_of th m)) (hold_of th m) th.answered
+    elsewhere p m ne = ap (λ (b : Bool). look_of p (call_of th) b (has_readers (kind_of th m)) (hold_of th m) th.answered) (off_others m ne) ∙ plain-elsewhere p (call_of th) (has_readers (kind_of th m)) (hold_of th m) th.answered
+
+    turns-at : (x : Event) (left : ThreadPart) (cell : ReaderCell) → IsEvent x left → Cells l cell
+        → (Facts (look_of phase (Some call) true kind (hold_of th l) th.answered) (reader_part s l) → Turn (look_of phase (Some call) true kind (hold_of th l) th.answered) (look left l) (reader_part s l) cell)
+        → ((m : LockId) → nat_eq l.0 m.0 ≡ false → (hold_of th m).reads ≤ th.answered → Quiet (plain_look (has_readers (kind_of th m)) (hold_of th m) th.answered) (look left m)) → ReadersLaw (state_after s e)
+    turns-at x left cell event cells here there = turned-so x left event (λ m. at_each_lock (λ k. Turns k left) l m at_l (at_other m))
+      where
+        was : look th l ≡ look_of phase (Some call) true kind (hold_of th l) th.answered
+        was = seen th.phase ∙ ap (λ (p : Phase). look_of p (Some call) true kind (hold_of th l) th.answered) at.phased
+
+        at_l : Turns l left
+        at_l known =
+            subst (Turn (look th l) (look left l) (reader_part s l)) (sym cells.here)
+            (subst (λ (b : Look). Facts b (reader_part s l) → Turn b (look left l) (reader_part s l) cell) (sym was) here known)
+
+        at_other : (m : LockId) → nat_eq l.0 m.0 ≡ false → Turns m left
+        at_other m ne known =
+            subst (Turn (look th m) (look left m) (reader_part s m)) (sym (cells.others m ne))
+            (quiet-turn (look th m) (look left m) (reader_part s m) known (subst (λ (b : Look). Quiet b (look left m)) (sym (elsewhere th.phase m ne)) (there m ne known.few)))
+
+    -- it goes on in another phase
+    goes : (x : Event) (onward : Phase) (cell : ReaderCell) → IsEvent x (record th { phase = onward }) → Cells l cell
+        → (Facts (look_of phase (Some call) true kind (hold_of th l) th.answered) (reader_part s l)
+            → Turn (look_of phase (Some call) true kind (hold_of th l) th.answered) (look_of onward (Some call) true kind (hold_of th l) th.answered) (reader_part s l) cell) → ReadersLaw (state_after s e)
+    goes x onward cell event cells here =
+        turns-at x (record th { phase = onward }) cell event cells
+        (λ known. subst (λ (a : Look). Turn (look_of phase (Some call) true kind (hold_of th l) th.answered) a (reader_part s l) cell) (sym (seen onward)) (here known))
+        (λ m ne few. subst (Quiet (plain_look (has_readers (kind_of th m)) (hold_of th m) th.answered)) (sym (elsewhere onward m ne)) (plain-quiet (has_readers (kind_of th m)) (hold_of th m) (hold_of th m) th.answered th.answered refl refl few (omega arith)))
+
+    -- or is answered, and holds the lock so
+    ends : (x : Event) (p : Phase) (answer : Reply) (hold : Hold) (cell : ReaderCell) → IsEvent x (answered_with (record th { phase = p }) (Some answer)) → Holding th l hold (holds_after (record th { phase = p }) (Some call) answer) → Cells l cell
+        → (Facts (look_of phase (Some call) true kind (hold_of th l) th.answered) (reader_part s l)
+            → Turn (look_of phase (Some call) true kind (hold_of th l) th.answered) (plain_look kind hold (th.answered + 1)) (reader_part s l) cell) → ReadersLaw (state_after s e)
+    ends x p answer hold cell event holding cells here =
+        turns-at x left cell event cells
+        (λ known. subst (λ (h : Hold). Turn (look_of phase (Some call) true kind (hold_of th l) th.answered) (plain_look kind h (th.answered + 1)) (reader_part s l) cell) (sym (held l ∙ holding.here)) (here known))
+        (λ m ne few. subst (λ (h : Hold). Quiet (plain_look (has_readers (kind_of th m)) (hold_of th m) th.answered) (plain_look (has_readers (kind_of th m)) h (th.answered + 1))) (sym (held m ∙ holding.there m ne))
+        (plain-quiet (has_readers (kind_of th m)) (hold_of th m) (hold_of th m) th.answered (th.answered + 1) refl refl few (omega arith)))
+      where
+        left : ThreadPart
+        left = answered_with (record th { phase = p }) (Some answer)
+
+        held : (m : LockId) → hold_of left m ≡ unwrap_or (slice_get (holds_after (record th { phase = p }) (Some call) answer) m.0) (record { owns = false; reads = 0 })
+        held m = ap (λ (c : Option Call). unwrap_or (slice_get (holds_after (record th { phase = p }) c answer) m.0) (record { owns = false; reads = 0 })) at.calling

@@ -1,7 +1,7 @@
 -- A next event keeps the readers law.
 use Rattle.std.proofs.Common.{◌≡◌, inl, inr, ℕ, ◌+◌, ◌-◌, ◌<◌, ◌≤◌, Bool, true, false, cond, not, ◌&&◌, ◌||◌, List, [], length, refl, sym, ap, ◌∙◌, subst, arith, Option, Some, None, IfSome, unwrap_or}
 use Rattle.std.specs.Prelude.{slice_get, slice_set, nat_eq, nat_lt, option_map, option_and_then}
-use Rattle.std.proofs.lemmas.Bool.{and_from, cond_both}
+use Rattle.std.proofs.lemmas.Bool.{or_parts, cond_both}
 use Rattle.std.proofs.lemmas.Bool.Decides.{nat_tests}
 use Rattle.rt_base.specs.declared.call.Call.{Call}
 use Rattle.rt_base.specs.declared.call.Call.TheVariants as calls
@@ -33,13 +33,14 @@ use Rattle.rt_model.specs.events.Own.{unless_nested, if_held, if_not_held, priva
 use Rattle.rt_model.specs.events.Readers.{phase_after_rin, rout_event}
 use Rattle.rt_model.specs.events.Wait.{phase_after_wait}
 use Rattle.rt_model.specs.laws.Lawful.{IsLawful}
-use Rattle.rt_model.specs.laws.Owners.{owned_by, has_owner_part, OwnersLaw, gives_back}
+use Rattle.rt_model.specs.laws.Owners.{owned_by, has_inner, is_inside, has_owner_part, gives_back, OwnersLaw}
 use Rattle.rt_model.specs.laws.Readers.{is_closing, is_writing, of_owner, going, readers_by, all_readers, ReadersLaw}
 use Rattle.rt_model.proofs.Counts.{sum-update, sum-part}
 use Rattle.rt_model.proofs.Numbers.{number_itself, other_number, at_each_task, at_each_lock, one_owner, owner-is, nobodys}
-use Rattle.rt_model.proofs.Looks.{Look, look, look_of, plain_look, writing, off, has_part, reading, is_plain, plain-phase, plain-elsewhere, Facts, Turn, Flags, as_were, by_own, Quiet, quiet-turn, plain-quiet}
-use Rattle.rt_model.proofs.Calling.{IsIn}
-use Rattle.rt_model.proofs.Inside.{present-at}
+use Rattle.rt_model.proofs.Looks.{Look, look, look_of, plain_look, writing, off, has_part, reading, is_plain, plain-phase, plain-elsewhere, Facts, Turn, Flags, as_were, by_own, Quiet, quiet-turn, plain-quiet, got-quiet, released-quiet}
+use Rattle.rt_model.proofs.Calling.{each_call, served_call, IsIn, Returns, ReturnsBy, from_hold, from_inside, releases-holds, ends-holds}
+use Rattle.rt_model.proofs.Inside.{present-at, inside-at}
+use Rattle.rt_model.proofs.events.Acquire.{IsAcquiring, acquiring-holds}
 use Rattle.rt_model.proofs.PartsAfter.{read-set_same, read-set_other, readers-made, readers-kept, changes_readers, thread-own, thread-other}
 use Rattle.rt_model.proofs.Within.{holds_room, readers_room}
 
@@ -360,3 +361,147 @@ module _ (s : State) (made : ℕ) (t : TaskId) (e : Event) (lawful : IsLawful s 
 
         held : (m : LockId) → hold_of left m ≡ unwrap_or (slice_get (holds_after (record th { phase = p }) (Some call) answer) m.0) (record { owns = false; reads = 0 })
         held m = ap (λ (c : Option Call). unwrap_or (slice_get (holds_after (record th { phase = p }) c answer) m.0) (record { owns = false; reads = 0 })) at.calling
+
+    -- what an answer writes of its hold, or leaves
+    written : l.0 < length s.locks → (hold : Hold) → Holding th l hold (slice_set th.holds l.0 hold)
+    written lt hold = record {
+      here = read-set_same th.holds l.0 hold (record { owns = false; reads = 0 }) (holds_room s t l lawful.shape at.task lt);
+      there = λ m ne. read-set_other th.holds l.0 m.0 hold (record { owns = false; reads = 0 }) ne;
+    }
+
+    as_held : Holding th l (hold_of th l) th.holds
+    as_held = record { here = refl; there = λ m ne. refl }
+
+    -- where the lock's reader part stays, too
+    ends-quiet : (x : Event) (p : Phase) (answer : Reply) (hold : Hold) → IsEvent x (answered_with (record th { phase = p }) (Some answer)) → Holding th l hold (holds_after (record th { phase = p }) (Some call) answer) → changes_readers x.kind ≡ false
+        → ((hold_of th l).reads ≤ th.answered → Quiet (look_of phase (Some call) true kind (hold_of th l) th.answered) (plain_look kind hold (th.answered + 1))) → ReadersLaw (state_after s e)
+    ends-quiet x p answer hold event holding keeps quiet =
+        ends x p answer hold (reader_part s l) event holding (kept l x event.is keeps)
+        (λ known. quiet-turn (look_of phase (Some call) true kind (hold_of th l) th.answered) (plain_look kind hold (th.answered + 1)) (reader_part s l) known (quiet known.few))
+
+    goes-quiet : (x : Event) (onward : Phase) → IsEvent x (record th { phase = onward }) → changes_readers x.kind ≡ false
+        → ((hold_of th l).reads ≤ th.answered → Quiet (look_of phase (Some call) true kind (hold_of th l) th.answered) (look_of onward (Some call) true kind (hold_of th l) th.answered)) → ReadersLaw (state_after s e)
+    goes-quiet x onward event keeps quiet =
+        goes x onward (reader_part s l) event (kept l x event.is keeps)
+        (λ known. quiet-turn (look_of phase (Some call) true kind (hold_of th l) th.answered) (look_of onward (Some call) true kind (hold_of th l) th.answered) (reader_part s l) known (quiet known.few))
+
+  -- ---- by the kind of its lock
+
+  other_kind : (l : LockId) (k : Kind) → slice_get th.kinds l.0 ≡ Some k → has_readers k ≡ false → has_readers (kind_of th l) ≡ false
+  other_kind l k is none = ap (λ (o : Option Kind). has_readers (unwrap_or o locks.Mutex)) is ∙ none
+
+  reader_kind : (l : LockId) → HasReadersAt th.kinds l.0 → has_readers (kind_of th l) ≡ true
+  reader_kind l is = of_kind (slice_get th.kinds l.0) is
+    where
+      of_kind : (o : Option Kind) → option_map has_readers o ≡ Some true → has_readers (unwrap_or o locks.Mutex) ≡ true
+      of_kind None is = cc
+      of_kind (Some k) is = let same : has_readers k ≡ true = cc in same
+
+  fits : (call : Call) → call_of th ≡ Some call → IsForKind th.kinds call
+  fits call calling = each_call (λ thread. IsForKind thread.kinds) s t call lawful.stage.fit calling
+
+  -- of another kind it may be held or not
+  other-quiet : (rw owns : Bool) (hold : Hold) (answered : ℕ) → rw ≡ false → hold.reads ≤ answered → Quiet (plain_look rw hold answered) (plain_look rw (record hold { owns = owns }) (answered + 1))
+  other-quiet true owns hold answered is few = cc
+  other-quiet false owns hold answered is few = plain-quiet false hold (record hold { owns = owns }) answered (answered + 1) refl refl few (omega arith)
+
+  -- ---- an acquire
+
+  -- a task that gets an owner part that nobody has
+  acquires : (x : Event) (l : LockId) → e ≡ x → x.task ≡ t → t.0 < length s.threads → l.0 < length s.locks → changes_readers x.kind ≡ false → (owner_part s l).owner ≡ None → IsAcquiring s t l → is_plain th.phase ≡ true
+      → thread_after (shared s) (thread_part s x.task) x ≡ answered_with (record th { phase = phase_after_got (call_of th) th.phase }) (got_answer (call_of th)) → ReadersLaw (state_after s e)
+  acquires x l is own there lt keeps none acquiring plain left =
+      acquiring-holds Acquires acquiring.call l acquiring.acquires
+      (got (calls.Lock l) locks.Mutex refl (λ fit. fit) refl (λ so. so) refl) (got (calls.LockInt l) locks.Mutex refl (λ fit. fit) refl (λ so. so) refl) (got (calls.Spin l) locks.Spin refl (λ fit. fit) refl (λ so. so) refl)
+      (got (calls.TryLock l) locks.Mutex refl (λ fit. fit) refl (λ so. so) refl) (got (calls.TrySpin l) locks.Spin refl (λ fit. fit) refl (λ so. so) refl)
+      (onward (calls.Read l) phases.ReadIn refl (λ so. so) inside) (onward (calls.Write l) phases.Unbias refl (λ so. so) inside) (onward (calls.TryWrite l) phases.Unbias refl (λ so. so) inside)
+      acquiring.calling (subst Left acquiring.calling left)
+    where
+      Left : Option Call → Type 0
+      Left c = thread_after (shared s) (thread_part s x.task) x ≡ answered_with (record th { phase = phase_after_got c th.phase }) (got_answer c)
+
+      Acquires : Call → Type 0
+      Acquires call = call_of th ≡ Some call → Left (Some call) → ReadersLaw (state_after s e)
+
+      event : (left : ThreadPart) → thread_after (shared s) (thread_part s x.task) x ≡ left → IsEvent x left
+      event left so = record { is = is; own = own; there = there; thread = so }
+
+      at : (call : Call) → call_of th ≡ Some call → IsIn s t th.phase call
+      at call calling = record { calling = calling; phased = refl; task = there; served = served_call s t call lawful.stage calling }
+
+      rw : Bool
+      rw = has_readers (kind_of th l)
+
+      was : (call : Call) → look_of th.phase (Some call) true rw (hold_of th l) th.answered ≡ plain_look rw (hold_of th l) th.answered
+      was call = plain-phase th.phase (Some call) true rw (hold_of th l) th.answered plain
+
+      unheld : (hold_of th l).owns ≡ false
+      unheld = (or_parts (hold_of th l).owns (look th l).inside (lawful.owners.owned l t ∙ nobodys (owner_part s l).owner t none)).0
+
+      inside : (hold_of th l).reads ≤ th.answered → Quiet (plain_look rw (hold_of th l) th.answered) (look_of phases.Unbias None true rw (hold_of th l) th.answered)
+      inside = got-quiet rw (hold_of th l) th.answered unheld
+
+      got : (call : Call) (k : Kind) → has_readers k ≡ false → (IsForKind th.kinds call → slice_get th.kinds l.0 ≡ Some k) → called_lock th.cpu call ≡ Some l → (Left (Some call) → Left None)
+          → holds_after th (Some call) replies.Got ≡ with_hold th l true → Acquires call
+      got call k none fit about so holds calling left =
+          ends-quiet l th.phase call (at call calling) about x th.phase replies.Got (record (hold_of th l) { owns = true }) (event _ (so left))
+          (subst (Holding th l (record (hold_of th l) { owns = true })) (sym holds) (written l th.phase call (at call calling) about lt (record (hold_of th l) { owns = true }))) keeps
+          (λ few. subst (λ (b : Look). Quiet b (plain_look rw (record (hold_of th l) { owns = true }) (th.answered + 1))) (sym (was call)) (other-quiet rw true (hold_of th l) th.answered (other_kind l k (fit (fits call calling)) none) few))
+
+      onward : (call : Call) (p : Phase) → called_lock th.cpu call ≡ Some l → (Left (Some call) → thread_after (shared s) (thread_part s x.task) x ≡ record th { phase = p })
+          → ((hold_of th l).reads ≤ th.answered → Quiet (plain_look rw (hold_of th l) th.answered) (look_of p (Some call) true rw (hold_of th l) th.answered)) → Acquires call
+      onward call p about so quiet calling left =
+          goes-quiet l th.phase call (at call calling) about x p (event _ (so left)) keeps
+          (λ few. subst (λ (b : Look). Quiet b (look_of p (Some call) true rw (hold_of th l) th.answered)) (sym (was call)) (quiet few))
+
+  -- ---- a release
+
+  -- a task releases a lock that it holds, or goes through an inner lock
+  releases : (x : Event) (l : LockId) → e ≡ x → x.task ≡ t → changes_readers x.kind ≡ false → Returns s t l
+      → thread_after (shared s) (thread_part s x.task) x ≡ answered_with th (Some (released_answer (call_of th))) → ReadersLaw (state_after s e)
+  releases x l is own keeps at left = by_how at.by
+    where
+      rw : Bool
+      rw = has_readers (kind_of th l)
+
+      Left : Call → Type 0
+      Left call = thread_after (shared s) (thread_part s x.task) x ≡ answered_with th (Some (released_answer (Some call)))
+
+      so : Left at.call
+      so = subst (λ (c : Option Call). thread_after (shared s) (thread_part s x.task) x ≡ answered_with th (Some (released_answer c))) at.calling left
+
+      event : (left : ThreadPart) → thread_after (shared s) (thread_part s x.task) x ≡ left → IsEvent x left
+      event left so = record { is = is; own = own; there = at.task; thread = so }
+
+      given_up : (call : Call) (k : Kind) → has_readers k ≡ false → (IsForKind th.kinds call → slice_get th.kinds l.0 ≡ Some k) → called_lock th.cpu call ≡ Some l → released_answer (Some call) ≡ replies.Done
+          → holds_after th (Some call) replies.Done ≡ with_hold th l false → IsIn s t phases.Start call → Left call → ReadersLaw (state_after s e)
+      given_up call k none fit about done holds here left =
+          let hold : Hold = record (hold_of th l) { owns = false } in
+          ends-quiet l phases.Start call here about x th.phase replies.Done hold (event _ (left ∙ ap (λ (a : Reply). answered_with th (Some a)) done)) (subst (Holding th l hold) (sym holds) (written l phases.Start call here about at.lock hold)) keeps
+          (other-quiet rw false (hold_of th l) th.answered (other_kind l k (fit (fits call here.calling)) none))
+
+      -- whether it holds the lock, and not for reading, is told by its call
+      gives : (call : Call) → IsIn s t phases.Release call → called_lock th.cpu call ≡ Some l → (hold_of th l).owns ≡ gives_back phases.Release (Some call)
+      gives call here about =
+          let inner : is_inside th l ≡ true = inside-at th l l (ap has_inner here.phased) (present-at s t phases.Release call (Some l) here about) ∙ number_itself l.0 in
+          lawful.owners.inside l t inner ∙ (λ i. gives_back (here.phased i) (here.calling i))
+
+      passed : (call : Call) (hold : Hold) (coming : ℕ) → called_lock th.cpu call ≡ Some l → (l.0 < length s.locks → IsIn s t phases.Release call → Holding th l hold (holds_after th (Some call) (released_answer (Some call))))
+          → (gives_back phases.Release (Some call) ≡ (hold_of th l).owns → hold.owns ≡ false) → hold.reads ≡ (hold_of th l).reads + coming → coming ≤ 1
+          → (Quiet (record (plain_look rw (hold_of th l) th.answered) { inside = true; coming = coming }) (plain_look rw hold (th.answered + 1)) → Quiet (look_of phases.Release (Some call) true rw (hold_of th l) th.answered) (plain_look rw hold (th.answered + 1)))
+          → IsIn s t phases.Release call → Left call → ReadersLaw (state_after s e)
+      passed call hold coming about holding unheld reads one seen here left =
+          ends-quiet l phases.Release call here about x th.phase (released_answer (Some call)) hold (event _ left) (holding at.lock here) keeps
+          (λ few. seen (released-quiet rw (hold_of th l) th.answered coming hold (unheld (sym (gives call here about))) reads (omega (arith, reads, one, few))))
+
+      by_how : ReturnsBy s t l at.call → ReadersLaw (state_after s e)
+      by_how (from_hold how here held) =
+          releases-holds (λ c. IsIn s t phases.Start c → Left c → ReadersLaw (state_after s e)) at.call l how
+          (given_up (calls.Unlock l) locks.Mutex refl (λ fit. fit) refl refl refl) (given_up (calls.Unspin l) locks.Spin refl (λ fit. fit) refl refl refl) here so
+      by_how (from_inside how here) =
+          ends-holds (λ c. IsIn s t phases.Release c → Left c → ReadersLaw (state_after s e)) at.call l how
+          (passed (calls.Read l) (record (hold_of th l) { reads = (hold_of th l).reads + 1 }) 1 refl (λ lt here. written l phases.Release (calls.Read l) here refl lt _) (λ is. sym is) refl (omega arith) (λ quiet. quiet))
+          (passed (calls.TryWrite l) (hold_of th l) 0 refl (λ lt here. as_held l phases.Release (calls.TryWrite l) here refl) (λ is. sym is) (omega arith) (omega arith) (λ quiet. quiet))
+          (passed (calls.Unwrite l) (record (hold_of th l) { owns = false }) 0 refl (λ lt here. written l phases.Release (calls.Unwrite l) here refl lt _) (λ is. refl) (omega arith) (omega arith) (λ quiet. quiet))
+          (passed (calls.Downgrade l) (record { owns = false; reads = (hold_of th l).reads + 1 }) 1 refl (λ lt here. written l phases.Release (calls.Downgrade l) here refl lt _) (λ is. refl) refl (omega arith) (λ quiet. quiet))
+          here so

@@ -1,7 +1,7 @@
 -- A next event keeps the readers law.
 use Rattle.std.proofs.Common.{◌≡◌, inl, inr, ℕ, ◌+◌, ◌-◌, ◌<◌, ◌≤◌, Bool, true, false, cond, not, ◌&&◌, ◌||◌, List, [], length, refl, sym, ap, ◌∙◌, subst, arith, Option, Some, None, IfSome, unwrap_or}
 use Rattle.std.specs.Prelude.{slice_get, slice_set, nat_eq, nat_lt, option_map, option_and_then}
-use Rattle.std.proofs.lemmas.Bool.{or_parts, cond_both}
+use Rattle.std.proofs.lemmas.Bool.{or_parts, or_left, or_right, cond_both}
 use Rattle.std.proofs.lemmas.Bool.Decides.{nat_tests}
 use Rattle.rt_base.specs.declared.call.Call.{Call}
 use Rattle.rt_base.specs.declared.call.Call.TheVariants as calls
@@ -28,20 +28,21 @@ use Rattle.rt_model.specs.StateAfter.{effect_in, shared_after, thread_after, sta
 use Rattle.rt_model.specs.steps.Chain.{followed, goes_on}
 use Rattle.rt_model.specs.steps.Readers.{can_read, with_reader, without_reader, wakes_writer, unbiased, can_write, with_writer, without_writer}
 use Rattle.rt_model.specs.steps.Task.{with_own, wake_answer, signal_answer}
-use Rattle.rt_model.specs.steps.Thread.{phase_after_got, got_answer, released_answer, phase_after_busy, with_hold, holds_after, answered_with}
+use Rattle.rt_model.specs.steps.Thread.{phase_after_got, got_answer, released_answer, phase_after_busy, with_hold, with_read, holds_after, answered_with}
 use Rattle.rt_model.specs.events.Own.{unless_nested, if_held, if_not_held, private_answer, own_answer}
-use Rattle.rt_model.specs.events.Readers.{phase_after_rin, rout_event}
+use Rattle.rt_model.specs.events.Readers.{phase_after_rin, rin_event, rout_event, wopen_event}
 use Rattle.rt_model.specs.events.Wait.{phase_after_wait}
 use Rattle.rt_model.specs.laws.Lawful.{IsLawful}
 use Rattle.rt_model.specs.laws.Owners.{owned_by, has_inner, is_inside, has_owner_part, gives_back, OwnersLaw}
 use Rattle.rt_model.specs.laws.Readers.{is_closing, is_writing, of_owner, going, readers_by, all_readers, ReadersLaw}
 use Rattle.rt_model.proofs.Counts.{sum-update, sum-part}
 use Rattle.rt_model.proofs.Numbers.{number_itself, other_number, at_each_task, at_each_lock, one_owner, owner-is, nobodys}
-use Rattle.rt_model.proofs.Looks.{Look, look, look_of, plain_look, writing, off, has_part, reading, is_plain, plain-phase, plain-elsewhere, Facts, Turn, Flags, as_were, by_own, Quiet, quiet-turn, plain-quiet, got-quiet, released-quiet}
-use Rattle.rt_model.proofs.Calling.{each_call, served_call, IsIn, Returns, ReturnsBy, from_hold, from_inside, releases-holds, ends-holds}
+use Rattle.rt_model.proofs.Looks.{Look, look, look_of, plain_look, writing, off, has_part, reading, is_plain, plain-phase, plain-elsewhere, Facts, Turn, Flags, as_were, by_own, Quiet, quiet-turn, plain-quiet, got-quiet, released-quiet, woken-quiet, slept-quiet, read-turn, let_in-turn, out-turn, last-turn, unbias-turn, open-turn, written-turn}
+use Rattle.rt_model.proofs.Calling.{each_call, served_call, IsIn, Returns, ReturnsBy, from_hold, from_inside, releases-holds, ends-holds, Writes, writes_by, writes-holds}
 use Rattle.rt_model.proofs.Inside.{present-at, inside-at}
 use Rattle.rt_model.proofs.events.Acquire.{IsAcquiring, acquiring-holds}
-use Rattle.rt_model.proofs.PartsAfter.{read-set_same, read-set_other, readers-made, readers-kept, changes_readers, thread-own, thread-other}
+use Rattle.rt_model.proofs.events.Readers.{IsMade, IsReading, is_read, is_tryread, is_let_in, is_shut, is_tryshut, is_out, is_wwake, is_unbias, is_in, is_sleep, is_given_up, is_in_late, is_sleep_again, is_opened, is_downgraded}
+use Rattle.rt_model.proofs.PartsAfter.{read-update, read-set_same, read-set_other, readers-made, readers-kept, changes_readers, thread-own, thread-other}
 use Rattle.rt_model.proofs.Within.{holds_room, readers_room}
 
 -- ---- what a lawful state says of a look
@@ -505,3 +506,105 @@ module _ (s : State) (made : ℕ) (t : TaskId) (e : Event) (lawful : IsLawful s 
           (passed (calls.Unwrite l) (record (hold_of th l) { owns = false }) 0 refl (λ lt here. written l phases.Release (calls.Unwrite l) here refl lt _) (λ is. refl) (omega arith) (omega arith) (λ quiet. quiet))
           (passed (calls.Downgrade l) (record { owns = false; reads = (hold_of th l).reads + 1 }) 1 refl (λ lt here. written l phases.Release (calls.Downgrade l) here refl lt _) (λ is. refl) refl (omega arith) (λ quiet. quiet))
           here so
+
+  -- ---- an event at the reader part
+
+  made-event : (phase : Phase) (l : LockId) (call : Call) (x : Event) (left : ThreadPart) → IsMade s t l phase call x e → x.task ≡ t → thread_after (shared s) (thread_part s x.task) x ≡ left → IsEvent x left
+  made-event phase l call x left is own so = record { is = is.event; own = own; there = is.at.task; thread = so }
+
+  -- a reader leaves, and is answered, or goes on to wake the writer
+  leaves : (l : LockId) → IsMade s t l phases.Start (calls.Unread l) (rout_event t l (reader_part s l)) e → nat_lt 0 (hold_of th l).reads ≡ true → ReadersLaw (state_after s e)
+  leaves l is held = by_test (wakes_writer (without_reader (reader_part s l))) refl
+    where
+      x : Event
+      x = rout_event t l (reader_part s l)
+
+      room : l.0 < length s.readers
+      room = readers_room s l lawful.shape is.lock
+
+      one : 1 ≤ (hold_of th l).reads
+      one = grind (arith, nat_tests)
+
+      left : (b : Bool) → wakes_writer (without_reader (reader_part s l)) ≡ b → thread_after (shared s) th x ≡ answered_with (record th { phase = cond b phases.WakeWriter th.phase }) (cond b None (Some replies.Done))
+      left b told =
+          let same : reader_part (state_after s x) l ≡ without_reader (reader_part s l) = read-update s.readers l.0 without_reader no_readers room in
+          λ i. answered_with (record th { phase = cond ((ap wakes_writer same ∙ told) i) phases.WakeWriter th.phase }) (cond (told i) None (Some replies.Done))
+
+      by_test : (b : Bool) → wakes_writer (without_reader (reader_part s l)) ≡ b → ReadersLaw (state_after s e)
+      by_test true told =
+          goes l phases.Start (calls.Unread l) is.at refl x phases.WakeWriter (without_reader (reader_part s l)) (made-event _ l _ x _ is refl (left true told)) (changed l x is.event refl is.lock)
+          (last-turn (has_readers (kind_of th l)) (hold_of th l) th.answered (reader_part s l) one)
+      by_test false told =
+          ends l phases.Start (calls.Unread l) is.at refl x th.phase replies.Done _ (without_reader (reader_part s l)) (made-event _ l _ x _ is refl (left false told)) (written l phases.Start (calls.Unread l) is.at refl is.lock _) (changed l x is.event refl is.lock)
+          (out-turn (has_readers (kind_of th l)) (hold_of th l) th.answered (reader_part s l) one)
+
+  not_set : (b : Bool) → not b ≡ true → b ≡ false
+  not_set true is = cc
+  not_set false is = refl
+
+  -- a reader gets in at its call's start
+  comes : (l : LockId) (call : Call) → IsMade s t l phases.Start call (rin_event t l (Some replies.Got)) e → called_lock th.cpu call ≡ Some l → holds_after th (Some call) replies.Got ≡ with_read th l
+      → (Facts (plain_look (has_readers (kind_of th l)) (hold_of th l) th.answered) (reader_part s l) → (reader_part s l).writer ≡ false) → ReadersLaw (state_after s e)
+  comes l call is about holds none =
+      let hold : Hold = record (hold_of th l) { reads = (hold_of th l).reads + 1 } in
+      ends l phases.Start call is.at about _ (phase_after_rin th.phase) replies.Got hold (with_reader (reader_part s l)) (made-event _ l _ _ _ is refl refl)
+      (subst (Holding th l hold) (sym holds) (written l phases.Start call is.at about is.lock hold)) (changed l _ is.event refl is.lock)
+      (λ known. read-turn (has_readers (kind_of th l)) (hold_of th l) th.answered (reader_part s l) (none known) known)
+
+  -- what its call is on the lock in a phase
+  abbrev seen_in : LockId → Phase → Call → Look
+  seen_in l phase call = look_of phase (Some call) true (has_readers (kind_of th l)) (hold_of th l) th.answered
+
+  -- a writer gets in
+  gets_in : (l : LockId) (phase : Phase) (call : Call) (x : Event) → Writes call l → IsMade s t l phase call x e → x.task ≡ t → thread_after (shared s) (thread_part s x.task) x ≡ answered_with th (Some replies.Got) → Cells l (with_writer (reader_part s l))
+      → (Facts (seen_in l phase call) (reader_part s l) → has_readers (kind_of th l) ≡ true
+          → Turn (seen_in l phase call) (plain_look (has_readers (kind_of th l)) (record (hold_of th l) { owns = true }) (th.answered + 1)) (reader_part s l) (with_writer (reader_part s l)))
+      → ReadersLaw (state_after s e)
+  gets_in l phase call x writes is own left cells turn =
+      let about : called_lock th.cpu call ≡ Some l = writes-holds (λ c. called_lock th.cpu c ≡ Some l) call l writes refl refl in
+      let hold : Hold = record (hold_of th l) { owns = true } in
+      let its : Holding th l hold (with_hold th l true) = written l phase call is.at about is.lock hold in
+      ends l phase call is.at about x th.phase replies.Got hold (with_writer (reader_part s l)) (made-event _ l _ _ _ is own left)
+      (writes-holds (λ c. Holding th l hold (holds_after th (Some c) replies.Got)) call l writes its its) cells
+      (λ known. turn known (reader_kind l (writes-holds (λ c. IsForKind th.kinds c → HasReadersAt th.kinds l.0) call l writes (λ fit. fit) (λ fit. fit) (fits call is.at.calling))))
+
+  -- a writer leaves, or gives up its way in, with so many readers more
+  opens : (l : LockId) (phase : Phase) (call : Call) (value coming : ℕ) → IsMade s t l phase call (wopen_event t l value) e → called_lock th.cpu call ≡ Some l → (seen_in l phases.Release call).coming ≡ coming
+      → (without_writer (nat_eq value 1) (reader_part s l)).count ≡ (reader_part s l).count + coming → (without_writer (nat_eq value 1) (reader_part s l)).bias ≡ true → (without_writer (nat_eq value 1) (reader_part s l)).writer ≡ false
+      → (seen_in l phase call).coming ≡ 0 → (seen_in l phase call).going ≡ 0 → has_part (seen_in l phase call) ≡ true → ReadersLaw (state_after s e)
+  opens l phase call value coming is about more count bias writer none also owns =
+      let rw : Bool = has_readers (kind_of th l) in
+      let left : ReaderCell = without_writer (nat_eq value 1) (reader_part s l) in
+      goes l phase call is.at about _ phases.Release left (made-event _ l _ _ _ is refl refl) (changed l _ is.event refl is.lock)
+      (λ known. subst (λ (n : ℕ). Turn (seen_in l phase call) (record (plain_look rw (hold_of th l) th.answered) { inside = true; coming = n }) (reader_part s l) left) (sym more)
+      (open-turn rw (hold_of th l) th.answered (reader_part s l) (seen_in l phase call) coming left refl none also refl owns bias writer count known))
+
+  reads : (l : LockId) → IsReading s t l e → ReadersLaw (state_after s e)
+  reads l (is_read is unheld can) = comes l (calls.Read l) is refl refl (λ known. not_set (reader_part s l).writer can)
+  reads l (is_tryread is set) = comes l (calls.TryRead l) is refl refl (λ known. known.nobody set)
+  reads l (is_let_in is) =
+      goes l phases.ReadIn (calls.Read l) is.at refl _ phases.Release (with_reader (reader_part s l)) (made-event _ l _ _ _ is refl (ap (λ (p : Phase). record th { phase = phase_after_rin p }) is.at.phased)) (changed l _ is.event refl is.lock)
+      (let_in-turn (has_readers (kind_of th l)) (hold_of th l) th.answered (reader_part s l))
+  reads l (is_shut is unheld cannot) =
+      plainly _ (record th { phase = phases.Inner }) (made-event _ l _ _ _ is refl (ap (λ (c : Option Call). record th { phase = phase_after_busy c th.phase }) is.at.calling)) refl
+      (record { before = ap is_plain is.at.phased; after = refl; kinds = refl; holds = refl; more = omega arith })
+  reads l (is_tryshut is off) =
+      plainly _ (answered_with (record th { phase = phase_after_busy (call_of th) th.phase }) (Some replies.Busy)) (made-event _ l _ _ _ is refl refl) refl
+      (record { before = ap is_plain is.at.phased; after = refl; kinds = refl; holds = ap (λ (c : Option Call). holds_after (record th { phase = phase_after_busy (call_of th) th.phase }) c replies.Busy) is.at.calling; more = omega arith })
+  reads l (is_out is held) = leaves l is held
+  reads l (is_wwake is) =
+      ends-quiet l phases.WakeWriter (calls.Unread l) is.at refl _ th.phase replies.Done _ (made-event _ l _ _ _ is refl refl) (written l phases.WakeWriter (calls.Unread l) is.at refl is.lock _) refl
+      (woken-quiet (has_readers (kind_of th l)) (hold_of th l) th.answered)
+  reads l (is_unbias call writes is) =
+      goes l phases.Unbias call is.at (writes-holds (λ c. called_lock th.cpu c ≡ Some l) call l writes refl refl) _ phases.WTry (unbiased (reader_part s l)) (made-event _ l _ _ _ is refl refl) (changed l _ is.event refl is.lock)
+      (unbias-turn (has_readers (kind_of th l)) (hold_of th l) th.answered (reader_part s l))
+  reads l (is_in call writes is can) = gets_in l phases.WTry call _ writes is refl refl (changed l _ is.event refl is.lock) (λ known rw. written-turn (has_readers (kind_of th l)) (hold_of th l) th.answered (reader_part s l) rw can known)
+  reads l (is_in_late is runs can) =
+      gets_in l phases.WWait (calls.Write l) _ (writes_by refl) is refl refl (changed l _ is.event refl is.lock) (λ known rw. written-turn (has_readers (kind_of th l)) (hold_of th l) th.answered (reader_part s l) rw can known)
+  reads l (is_sleep is cannot) =
+      goes-quiet l phases.WTry (calls.Write l) is.at refl _ phases.WWait (made-event _ l _ _ _ is refl refl) refl (slept-quiet (has_readers (kind_of th l)) (hold_of th l) th.answered)
+  reads l (is_sleep_again is runs cannot) =
+      goes-quiet l phases.WWait (calls.Write l) is.at refl _ phases.WWait (made-event _ l _ _ _ is refl refl) refl (slept-quiet (has_readers (kind_of th l)) (hold_of th l) th.answered)
+  reads l (is_given_up is cannot) = opens l phases.WTry (calls.TryWrite l) 0 0 is refl refl (omega arith) refl refl refl refl (or_right (hold_of th l).owns true refl)
+  reads l (is_opened is held) = opens l phases.Start (calls.Unwrite l) 0 0 is refl refl (omega arith) refl refl refl refl (or_left (hold_of th l).owns false held)
+  reads l (is_downgraded is held) = opens l phases.Start (calls.Downgrade l) 1 1 is refl refl refl refl refl refl refl (or_left (hold_of th l).owns false held)

@@ -112,7 +112,7 @@ pub record Facts (b : Look) (cell : ReaderCell) : Type 0 where
 -- the flags say as much as before, or what the thread is itself, which has the owner part
 pub data Flags (b a : Look) (cell left : ReaderCell) : Type 0 where
   as_were : off a ≡ off b → writing a ≡ writing b → left.bias ≡ cell.bias → left.writer ≡ cell.writer → Flags b a cell left
-  by_own : has_part b ≡ true → left.bias ≡ not (off a) → left.writer ≡ writing a → Flags b a cell left
+  its_own : has_part b ≡ true → left.bias ≡ not (off a) → left.writer ≡ writing a → Flags b a cell left
 
 -- the event's own thread was b, and is a; the reader part was cell, and is left
 pub record Turn (b a : Look) (cell left : ReaderCell) : Type 0 where
@@ -210,13 +210,13 @@ module _ (rw : Bool) (hold : Hold) (answered : ℕ) where
 
     -- a writer on its way removes the bias
     pub unbias-turn : Facts (inner 0) cell → Turn (inner 0) closed cell (unbiased cell)
-    unbias-turn facts = record { flags = by_own (or_right hold.owns true refl) refl (facts.writer (or_right hold.owns true refl)); count = refl; alone = facts.alone; gone = omega arith; few = facts.few }
+    unbias-turn facts = record { flags = its_own (or_right hold.owns true refl) refl (facts.writer (or_right hold.owns true refl)); count = refl; alone = facts.alone; gone = omega arith; few = facts.few }
 
     -- the lock is opened again, with one reader more or none
     pub open-turn : (b : Look) (coming : ℕ) (left : ReaderCell) → b.hold ≡ hold → b.coming ≡ 0 → b.going ≡ 0 → b.answered ≡ answered → has_part b ≡ true → left.bias ≡ true → left.writer ≡ false → left.count ≡ cell.count + coming
         → Facts b cell → Turn b (inner coming) cell left
     open-turn b coming left same none also answers owns bias writer count facts = record {
-      flags = by_own owns (bias ∙ sym (ap not (out rw hold.owns))) (writer ∙ sym (out rw hold.owns));
+      flags = its_own owns (bias ∙ sym (ap not (out rw hold.owns))) (writer ∙ sym (out rw hold.owns));
       count = let reads : b.hold.reads ≡ hold.reads = ap (λ (h : Hold). h.reads) same in omega (arith, reads, none, also, count);
       alone = λ is. absurd (both is);
       gone = omega arith;
@@ -231,7 +231,7 @@ pub written-turn : (rw : Bool) (hold : Hold) (answered : ℕ) (cell : ReaderCell
     → Turn (closed rw hold answered) (then rw hold answered (record hold { owns = true })) cell (with_writer cell)
 written-turn false hold answered cell is can facts = cc
 written-turn true hold answered cell is can facts = record {
-  flags = by_own (or_right hold.owns true refl) (facts.bias (or_right hold.owns true refl)) refl;
+  flags = its_own (or_right hold.owns true refl) (facts.bias (or_right hold.owns true refl)) refl;
   count = omega arith;
   alone = λ set. same_number cell.count 0 can;
   gone = omega arith;

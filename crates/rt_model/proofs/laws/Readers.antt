@@ -37,10 +37,22 @@ use Rattle.rt_model.specs.laws.Owners.{owned_by, has_inner, is_inside, has_owner
 use Rattle.rt_model.specs.laws.Readers.{is_closing, is_writing, of_owner, going, readers_by, all_readers, ReadersLaw}
 use Rattle.rt_model.proofs.Counts.{sum-update, sum-part}
 use Rattle.rt_model.proofs.Numbers.{number_itself, other_number, at_each_task, at_each_lock, one_owner, owner-is, nobodys}
-use Rattle.rt_model.proofs.Looks.{Look, look, look_of, plain_look, writing, off, has_part, reading, is_plain, plain-phase, plain-elsewhere, Facts, Turn, Flags, as_were, by_own, Quiet, quiet-turn, plain-quiet, got-quiet, released-quiet, woken-quiet, slept-quiet, read-turn, let_in-turn, out-turn, last-turn, unbias-turn, open-turn, written-turn}
-use Rattle.rt_model.proofs.Calling.{each_call, served_call, IsIn, Returns, ReturnsBy, from_hold, from_inside, releases-holds, ends-holds, Writes, writes_by, writes-holds}
+use Rattle.rt_model.proofs.Looks.{Look, look, look_of, plain_look, writing, off, has_part, reading, is_plain, plain-phase, plain-elsewhere, Facts, Turn, Flags, as_were, its_own, Quiet, quiet-turn, plain-quiet, got-quiet, released-quiet, woken-quiet, slept-quiet, read-turn, let_in-turn, out-turn, last-turn, unbias-turn, open-turn, written-turn}
+use Rattle.rt_model.proofs.Calling.{each_call, served_call, IsIn, Returns, ReturnsBy, from_hold, from_inside, tries-holds, releases-holds, ends-holds, Writes, writes_by, writes-holds}
 use Rattle.rt_model.proofs.Inside.{present-at, inside-at}
-use Rattle.rt_model.proofs.events.Acquire.{IsAcquiring, acquiring-holds}
+use Rattle.rt_model.proofs.events.Acquire.{AsksBy, from_start, from_reading, AcquiresIn, by_asking, by_trying, TakesIn, from_slow, from_wait, from_trying, is_fast, is_mark, is_take, is_busy, IsAcquiring, fast-acquiring, take-acquiring, acquiring-holds}
+use Rattle.rt_model.proofs.events.Release.{is_free, is_give}
+use Rattle.rt_model.proofs.events.Wait.{is_wait, is_again, is_leave}
+use Rattle.rt_model.proofs.events.Walk.{is_walk, is_walkend, is_restart, is_cycle}
+use Rattle.rt_model.proofs.events.Wakeups.{is_state, is_sched, is_wake, is_signal}
+use Rattle.rt_model.proofs.NextEvents.{IsNext, by_own, by_acquire, by_wait, by_release, by_reading, by_walk, by_confirm, by_wakeup, by_setprio}
+use Rattle.rt_model.proofs.ToCome.{to_come-holds}
+use Rattle.rt_model.proofs.laws.Owners.{OwnersLaw-next}
+use Rattle.rt_model.proofs.Queues.{unowned-can_take}
+use Rattle.rt_model.proofs.Leaves.{IsLeft, by_leave, by_cycle, left_answer, left_kind, left_phase, left_made, left-is, left-asks, left-there, left-fits, left-thread, leave-left, cycle-left}
+use Rattle.rt_model.proofs.Links.{walked_thread, link-thread, end-thread, setprio-thread}
+use Rattle.rt_model.proofs.Routes.{walk-fits, setprio-fits, SameSort, SameSort-itself, SameSort-followed, walked-holds}
+use Rattle.rt_model.proofs.Waiters.{walk-phase}
 use Rattle.rt_model.proofs.events.Readers.{IsMade, IsReading, is_read, is_tryread, is_let_in, is_shut, is_tryshut, is_out, is_wwake, is_unbias, is_in, is_sleep, is_given_up, is_in_late, is_sleep_again, is_opened, is_downgraded}
 use Rattle.rt_model.proofs.PartsAfter.{read-update, read-set_same, read-set_other, readers-made, readers-kept, changes_readers, thread-own, thread-other}
 use Rattle.rt_model.proofs.Within.{holds_room, readers_room}
@@ -168,11 +180,11 @@ module _ (s : State) (made : ℕ) (t : TaskId) (e : Event) (lawful : IsLawful s 
       bias_left : (m : LockId) → Turned m → (reader_part (state_after s e) m).bias ≡ not (of_owner (λ thread. is_closing thread m || is_writing thread m) (state_after s e) (owner_part (state_after s e) m).owner)
       bias_left m (as_were closed writes bias writer) =
           bias ∙ (lawful.readers.bias m ∙ ap not (sym (same-owner m (λ thread. is_closing thread m || is_writing thread m) (off-part m) s (state_after s e) t lawful.owners owners others closed)))
-      bias_left m (by_own has bias writer) = bias ∙ ap not (sym (own-owner m (λ thread. is_closing thread m || is_writing thread m) (off-part m) s (state_after s e) t lawful.owners owners others has))
+      bias_left m (its_own has bias writer) = bias ∙ ap not (sym (own-owner m (λ thread. is_closing thread m || is_writing thread m) (off-part m) s (state_after s e) t lawful.owners owners others has))
 
       writer_left : (m : LockId) → Turned m → (reader_part (state_after s e) m).writer ≡ of_owner (λ thread. is_writing thread m) (state_after s e) (owner_part (state_after s e) m).owner
       writer_left m (as_were closed writes bias writer) = writer ∙ (lawful.readers.writer m ∙ sym (same-owner m (λ thread. is_writing thread m) (writing-part m) s (state_after s e) t lawful.owners owners others writes))
-      writer_left m (by_own has bias writer) = writer ∙ sym (own-owner m (λ thread. is_writing thread m) (writing-part m) s (state_after s e) t lawful.owners owners others has)
+      writer_left m (its_own has bias writer) = writer ∙ sym (own-owner m (λ thread. is_writing thread m) (writing-part m) s (state_after s e) t lawful.owners owners others has)
 
 -- ---- what an answer leaves of the holds
 
@@ -241,8 +253,8 @@ module _ (s : State) (made : ℕ) (t : TaskId) (e : Event) (lawful : IsLawful s 
     there : t.0 < length s.threads
     thread : thread_after (shared s) (thread_part s x.task) x ≡ left
 
-  left-thread : (x : Event) (left : ThreadPart) → IsEvent x left → thread_part (state_after s e) t ≡ left
-  left-thread x left event =
+  own-thread : (x : Event) (left : ThreadPart) → IsEvent x left → thread_part (state_after s e) t ≡ left
+  own-thread x left event =
       subst (λ (v : TaskId). v.0 < length s.threads → thread_part (state_after s e) v ≡ thread_after (shared s) (thread_part s x.task) x) event.own (thread-own s e x event.is) event.there ∙ event.thread
 
   abbrev Turns : LockId → ThreadPart → Type 0
@@ -250,7 +262,7 @@ module _ (s : State) (made : ℕ) (t : TaskId) (e : Event) (lawful : IsLawful s 
 
   turned-so : (x : Event) (left : ThreadPart) → IsEvent x left → ((m : LockId) → Turns m left) → ReadersLaw (state_after s e)
   turned-so x left event turns =
-      turned s made t e lawful owners (ap (λ (y : Event). y.task) event.is ∙ event.own) event.there (λ m. subst (Turns m) (sym (left-thread x left event)) (turns m))
+      turned s made t e lawful owners (ap (λ (y : Event). y.task) event.is ∙ event.own) event.there (λ m. subst (Turns m) (sym (own-thread x left event)) (turns m))
 
   -- the reader part of the lock is left so, and every other as it was
   record Cells (l : LockId) (left : ReaderCell) : Type 0 where
@@ -608,3 +620,103 @@ module _ (s : State) (made : ℕ) (t : TaskId) (e : Event) (lawful : IsLawful s 
   reads l (is_given_up is cannot) = opens l phases.WTry (calls.TryWrite l) 0 0 is refl refl (omega arith) refl refl refl refl (or_right (hold_of th l).owns true refl)
   reads l (is_opened is held) = opens l phases.Start (calls.Unwrite l) 0 0 is refl refl (omega arith) refl refl refl refl (or_left (hold_of th l).owns false held)
   reads l (is_downgraded is held) = opens l phases.Start (calls.Downgrade l) 1 1 is refl refl refl refl refl refl refl (or_left (hold_of th l).owns false held)
+
+  -- ---- all others
+
+  moved : (p : Phase) → is_plain p ≡ true → is_plain th.phase ≡ true → Keeps (record th { phase = p })
+  moved p after before = record { before = before; after = after; kinds = refl; holds = refl; more = omega arith }
+
+  answered : (p : Phase) (answer : Reply) → holds_after (record th { phase = p }) (call_of th) answer ≡ th.holds → is_plain th.phase ≡ true → Keeps (answered_with (record th { phase = p }) (Some answer))
+  answered p answer holds before = record { before = before; after = refl; kinds = refl; holds = holds; more = omega arith }
+
+  plain-event : (x : Event) (left : ThreadPart) → e ≡ x → x.task ≡ t → t.0 < length s.threads → changes_readers x.kind ≡ false → thread_after (shared s) (thread_part s x.task) x ≡ left → Keeps left → ReadersLaw (state_after s e)
+  plain-event x left is own there keeps so = plainly x left (record { is = is; own = own; there = there; thread = so }) keeps
+
+  -- the answer of a short walk leaves what the thread holds
+  short_holds : (u : TaskId) (answer : Reply) (call : Option Call) → IsPhaseOf (phases.Walk u (Short answer)) call → holds_after (record th { phase = phases.Start }) call answer ≡ th.holds
+  short_holds u answer (Some call) fit = to_come-holds (λ c a. holds_after (record th { phase = phases.Start }) (Some c) a ≡ th.holds) call answer fit (λ l. refl) (λ l. refl) (λ l. refl) (λ l. refl) (λ l. refl) (λ l. refl) (λ u prio. refl)
+  short_holds u answer None fit = absurd fit
+
+  -- a walk, whose thread is left so
+  walks : (x : Event) (u : TaskId) (route onward : Route) (owner : Option TaskId) (task : TaskPart) → e ≡ x → x.task ≡ t → t.0 < length s.threads → changes_readers x.kind ≡ false → is_plain th.phase ≡ true
+      → thread_after (shared s) (thread_part s x.task) x ≡ walked_thread th route (goes_on t onward owner task) → SameSort route onward → IsPhaseOf (phases.Walk u route) (call_of th) → ReadersLaw (state_after s e)
+  walks x u route onward owner task is own there keeps before so sort fit =
+      plain-event x (walked_thread th route (goes_on t onward owner task)) is own there keeps so
+      (walked-holds (λ r left. IsPhaseOf (phases.Walk u r) (call_of th) → Keeps left) th t route onward owner task sort
+      (λ path f. moved phases.Wait refl before) (λ path rest f. moved (phases.Confirm rest) refl before) (λ path rest o f. moved (phases.Walk o (Full rest)) refl before)
+      (λ answer f. answered phases.Start answer (short_holds u answer (call_of th) f) before) (λ answer o f. moved (phases.Walk o (Short answer)) refl before) fit)
+
+  -- one that leaves a queue
+  unqueues : (l : LockId) → IsLeft s t l e → ReadersLaw (state_after s e)
+  unqueues l is =
+      walks (left_made s t l e is) t (Short (left_answer is)) (Short (left_answer is)) (owner_part s l).owner _ (left-is s t l e is) refl (left-there s made t l e lawful is) (keeps is)
+      (ap is_plain (left-asks s made t l e lawful is).at.phased ∙ plain is) (left-thread s made t l e lawful is) (SameSort-itself (Short (left_answer is))) (left-fits s made t l e lawful is t)
+    where
+      keeps : (i : IsLeft s t l e) → changes_readers (left_kind i) ≡ false
+      keeps (by_leave i) = refl
+      keeps (by_cycle path o m rest i round owned) = refl
+
+      plain : (i : IsLeft s t l e) → is_plain (left_phase i) ≡ true
+      plain (by_leave i) = refl
+      plain (by_cycle path o m rest i round owned) = refl
+
+  asks-plain : (l : LockId) → AsksBy s t l → is_plain th.phase ≡ true
+  asks-plain l (from_start asks unheld) = ap is_plain asks.at.phased
+  asks-plain l (from_reading asks) = ap is_plain asks.at.phased
+
+  fast-plain : (l : LockId) → AcquiresIn s t l → is_plain th.phase ≡ true
+  fast-plain l (by_asking how) = asks-plain l how
+  fast-plain l (by_trying at) = ap is_plain at.at.phased
+
+  take-plain : (l : LockId) → TakesIn s t l → is_plain th.phase ≡ true
+  take-plain l (from_slow asks) = ap is_plain asks.at.phased
+  take-plain l (from_wait asks awake) = ap is_plain asks.at.phased
+  take-plain l (from_trying at) = ap is_plain at.at.phased
+
+  waits-plain : (l : LockId) (owner : Option TaskId) (blocked : Bool) → is_plain (phase_after_wait t (Some l) owner blocked) ≡ true
+  waits-plain l (Some o) true = refl
+  waits-plain l (Some o) false = refl
+  waits-plain l None blocked = refl
+
+  -- what its call's answer leaves
+  held_at : (p : Phase) (call : Call) (answer : Reply) → call_of th ≡ Some call → holds_after (record th { phase = p }) (Some call) answer ≡ th.holds → holds_after (record th { phase = p }) (call_of th) answer ≡ th.holds
+  held_at p call answer calling holds = ap (λ (c : Option Call). holds_after (record th { phase = p }) c answer) calling ∙ holds
+
+  -- a call that is answered by its first event, and holds nothing more or less by that
+  called : (call : Call) (answer : Reply) (x : Event) → IsIn s t phases.Start call → e ≡ x → x.task ≡ t → changes_readers x.kind ≡ false → thread_after (shared s) (thread_part s x.task) x ≡ answered_with th (Some answer)
+      → holds_after th (Some call) answer ≡ th.holds → ReadersLaw (state_after s e)
+  called call answer x at is own keeps so holds =
+      plain-event x _ is own at.task keeps so (answered th.phase answer (held_at th.phase call answer at.calling holds) (ap is_plain at.phased))
+
+  by_kind : IsNext s t e → ReadersLaw (state_after s e)
+  by_kind (by_own call answer is) =
+      plain-event _ _ is.event refl is.at.task refl refl (answered th.phase answer (refused-holds th (call_of th) answer (subst Refused is.why (private-refused call _ _ _ _))) (ap is_plain is.at.phased))
+  by_kind (by_acquire l (is_fast is)) = acquires _ l is.event refl is.task is.lock refl is.owner (fast-acquiring s t l is.how) (fast-plain l is.how) refl
+  by_kind (by_acquire l (is_mark is)) = plain-event _ _ is.event refl is.task refl refl (moved phases.Slow refl (asks-plain l is.how))
+  by_kind (by_acquire l (is_take is)) =
+      acquires _ l is.event refl is.task is.lock refl (unowned-can_take t (kind_of th l) (owner_part s l) (task_part s t) is.can) (take-acquiring s t l is.how) (take-plain l is.how) refl
+  by_kind (by_acquire l (is_busy is)) =
+      let p : Phase = phase_after_busy (call_of th) th.phase in
+      plain-event _ _ is.event refl is.at.at.task refl refl
+      (answered p replies.Busy (held_at p is.at.call replies.Busy is.at.at.calling (tries-holds (λ c. holds_after th (Some c) replies.Busy ≡ th.holds) is.at.call l is.at.tries_for refl refl refl)) (ap is_plain is.at.at.phased))
+  by_kind (by_wait l (is_wait is)) = plain-event _ _ is.event refl is.at.at.task refl refl (moved _ (waits-plain l (owner_part s l).owner _) (ap is_plain is.at.at.phased))
+  by_kind (by_wait l (is_again is)) = plain-event _ _ is.event refl is.at.at.task refl refl (moved th.phase (ap is_plain is.at.at.phased) (ap is_plain is.at.at.phased))
+  by_kind (by_wait l (is_leave is)) = unqueues l (leave-left s t l e is)
+  by_kind (by_release l (is_free is)) = releases _ l is.event refl refl is.at refl
+  by_kind (by_release l (is_give is)) = releases _ l is.event refl refl is.at refl
+  by_kind (by_reading l is) = reads l is
+  by_kind (by_walk route u (is_walk l key is)) =
+      walks _ u route (followed u l route) (owner_part s l).owner _ is.event refl is.task refl (ap is_plain (walk-phase s t route u is.how)) (link-thread s made t route u l key e lawful is) (SameSort-followed u l route) (walk-fits s t route u lawful.phases is.how)
+  by_kind (by_walk route u (is_walkend is)) =
+      walks _ u route route None (task_part s u) is.event refl is.task refl (ap is_plain (walk-phase s t route u is.how)) (end-thread s t route u e is) (SameSort-itself route) (walk-fits s t route u lawful.phases is.how)
+  by_kind (by_confirm l path (is_restart link is)) = plain-event _ _ is.event refl is.at.at.task refl refl (moved (phases.Walk t (Full [])) refl (ap is_plain is.at.at.phased))
+  by_kind (by_confirm l path (is_cycle is)) = unqueues l (cycle-left s made t l path e lawful is)
+  by_kind (by_wakeup (is_state state is)) = called (calls.State state) replies.Done _ is.at is.event refl refl refl refl
+  by_kind (by_wakeup (is_sched is)) = called calls.Schedule replies.Done _ is.at is.event refl refl refl refl
+  by_kind (by_wakeup (is_wake u is)) = called (calls.Wake u) (wake_answer (task_part s u)) _ is.at is.event refl refl refl refl
+  by_kind (by_wakeup (is_signal u is)) = called (calls.Signal u) (signal_answer (task_part s u)) _ is.at is.event refl refl refl refl
+  by_kind (by_setprio u prio is) =
+      walks _ u (Short replies.Done) (Short replies.Done) (Some u) (with_own prio (task_part s u)) is.event refl is.at.task refl (ap is_plain is.at.phased) (setprio-thread s made t u prio e lawful is) (SameSort-itself (Short replies.Done)) (setprio-fits s t u prio is.at)
+
+pub ReadersLaw-next : (s : State) (made : ℕ) (t : TaskId) (e : Event) → IsLawful s made → IsNext s t e → ReadersLaw (state_after s e)
+ReadersLaw-next s made t e lawful next = by_kind s made t e lawful (OwnersLaw-next s made t e lawful next) next

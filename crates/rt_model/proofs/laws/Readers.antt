@@ -1,7 +1,7 @@
 -- A next event keeps the readers law.
-use Rattle.std.proofs.Common.{◌≡◌, inl, inr, ℕ, ◌+◌, ◌-◌, ◌<◌, ◌≤◌, Bool, true, false, cond, not, ◌&&◌, ◌||◌, List, [], length, refl, sym, ap, ◌∙◌, subst, arith, Option, Some, None, IfSome, unwrap_or}
-use Rattle.std.specs.Prelude.{slice_get, slice_set, nat_eq, nat_lt, option_map, option_and_then}
-use Rattle.std.proofs.lemmas.Bool.{or_parts, or_left, or_right, cond_both}
+use Rattle.std.proofs.Common.{◌≡◌, ℕ, ◌+◌, ◌-◌, ◌<◌, ◌≤◌, Bool, true, false, cond, not, ◌&&◌, ◌||◌, List, [], length, refl, sym, ap, ◌∙◌, subst, arith, Option, Some, None, unwrap_or}
+use Rattle.std.specs.Prelude.{slice_get, slice_set, nat_eq, nat_lt, option_map}
+use Rattle.std.proofs.lemmas.Bool.{or_parts, or_left, or_right}
 use Rattle.std.proofs.lemmas.Bool.Decides.{nat_tests}
 use Rattle.rt_base.specs.declared.call.Call.{Call}
 use Rattle.rt_base.specs.declared.call.Call.TheVariants as calls
@@ -22,19 +22,17 @@ use Rattle.rt_model.specs.Parts.{TaskPart, ThreadPart, call_of, hold_of, kind_of
 use Rattle.rt_model.specs.Choice.{called_lock, present_lock, is_on}
 use Rattle.rt_model.specs.State.{State, shared, no_readers, no_thread, owner_part, reader_part, task_part, thread_part}
 use Rattle.rt_model.specs.Stage.{IsForKind, HasReadersAt, IsPhaseOf}
-use Rattle.rt_model.specs.Effect.{around}
 use Rattle.rt_model.specs.Rules.{touched}
-use Rattle.rt_model.specs.StateAfter.{effect_in, shared_after, thread_after, state_after}
+use Rattle.rt_model.specs.StateAfter.{effect_in, thread_after, state_after}
 use Rattle.rt_model.specs.steps.Chain.{followed, goes_on}
-use Rattle.rt_model.specs.steps.Readers.{can_read, with_reader, without_reader, wakes_writer, unbiased, can_write, with_writer, without_writer}
+use Rattle.rt_model.specs.steps.Readers.{with_reader, without_reader, wakes_writer, unbiased, with_writer, without_writer}
 use Rattle.rt_model.specs.steps.Task.{with_own, wake_answer, signal_answer}
 use Rattle.rt_model.specs.steps.Thread.{phase_after_got, got_answer, released_answer, phase_after_busy, with_hold, with_read, holds_after, answered_with}
-use Rattle.rt_model.specs.events.Own.{unless_nested, if_held, if_not_held, private_answer, own_answer}
 use Rattle.rt_model.specs.events.Readers.{phase_after_rin, rin_event, rout_event, wopen_event}
 use Rattle.rt_model.specs.events.Wait.{phase_after_wait}
 use Rattle.rt_model.specs.laws.Lawful.{IsLawful}
 use Rattle.rt_model.specs.laws.Owners.{owned_by, has_inner, is_inside, has_owner_part, gives_back, OwnersLaw}
-use Rattle.rt_model.specs.laws.Readers.{is_closing, is_writing, of_owner, going, readers_by, all_readers, ReadersLaw}
+use Rattle.rt_model.specs.laws.Readers.{is_unbiased, is_closing, is_writing, of_owner, going, readers_by, all_readers, ReadersLaw}
 use Rattle.rt_model.proofs.Counts.{sum-update, sum-part}
 use Rattle.rt_model.proofs.Numbers.{number_itself, other_number, at_each_task, at_each_lock, one_owner, owner-is, nobodys}
 use Rattle.rt_model.proofs.Looks.{Look, look, look_of, plain_look, writing, off, has_part, reading, is_plain, plain-phase, plain-elsewhere, Facts, Turn, Flags, as_were, its_own, Quiet, quiet-turn, plain-quiet, got-quiet, released-quiet, woken-quiet, slept-quiet, read-turn, let_in-turn, out-turn, last-turn, unbias-turn, open-turn, written-turn}
@@ -47,7 +45,7 @@ use Rattle.rt_model.proofs.events.Walk.{is_walk, is_walkend, is_restart, is_cycl
 use Rattle.rt_model.proofs.events.Wakeups.{is_state, is_sched, is_wake, is_signal}
 use Rattle.rt_model.proofs.NextEvents.{IsNext, by_own, by_acquire, by_wait, by_release, by_reading, by_walk, by_confirm, by_wakeup, by_setprio}
 use Rattle.rt_model.proofs.ToCome.{to_come-holds}
-use Rattle.rt_model.proofs.laws.Owners.{OwnersLaw-next}
+use Rattle.rt_model.proofs.laws.Owners.{is_refusal, own-refuses, OwnersLaw-next}
 use Rattle.rt_model.proofs.Queues.{unowned-can_take}
 use Rattle.rt_model.proofs.Leaves.{IsLeft, by_leave, by_cycle, left_answer, left_kind, left_phase, left_made, left-is, left-asks, left-there, left-fits, left-thread, leave-left, cycle-left}
 use Rattle.rt_model.proofs.Links.{walked_thread, link-thread, end-thread, setprio-thread}
@@ -140,7 +138,7 @@ off_part true true rw false within is = refl
 off_part true false rw owns within is = let never : false ≡ true = within refl in absurd cc
 off_part false inside rw owns within is = in_part rw owns inside is
 
-closing_inside : (phase : Phase) (on : Bool) → (look_of phase None on true (record { owns = true; reads = 0 }) 0).closing ≡ true → (look_of phase None on true (record { owns = true; reads = 0 }) 0).inside ≡ true
+closing_inside : (phase : Phase) (on : Bool) → (is_unbiased phase && on) ≡ true → (has_inner phase && on) ≡ true
 closing_inside phases.WTry on is = is
 closing_inside phases.WWait on is = is
 closing_inside _ on is = cc
@@ -193,48 +191,8 @@ record Holding (thread : ThreadPart) (l : LockId) (hold : Hold) (holds : List Ho
   here : unwrap_or (slice_get holds l.0) (record { owns = false; reads = 0 }) ≡ hold
   there : (m : LockId) → nat_eq l.0 m.0 ≡ false → unwrap_or (slice_get holds m.0) (record { owns = false; reads = 0 }) ≡ hold_of thread m
 
--- a thread answers a call at once with none of the answers that change its holds
-abbrev refuses : Reply → Bool
-refuses replies.Deadlock = true
-refuses replies.NotOwner = true
-refuses replies.Nesting = true
-refuses replies.Pinned = true
-refuses _ = false
-
-abbrev Refused : Option Reply → Type 0
-Refused reply = IfSome reply (λ answer. refuses answer ≡ true)
-
-if_held-refused : (held : Bool) → Refused (if_held held)
-if_held-refused true = refl
-if_held-refused false = tt
-
-if_not_held-refused : (held : Bool) → Refused (if_not_held held)
-if_not_held-refused true = tt
-if_not_held-refused false = refl
-
-nested-refused : (nested : ℕ) (answer : Option Reply) → Refused answer → Refused (unless_nested nested answer)
-nested-refused nested answer is = cond_both (nat_lt 0 nested) (Some replies.Nesting) answer Refused (λ inside. refl) (λ out. is)
-
-private-refused : (call : Call) (kind : Option Kind) (nested : ℕ) (held : Bool) (migration : ℕ) → Refused (private_answer call kind nested held migration)
-private-refused (calls.Lock l) kind nested held migration = nested-refused nested (if_held held) (if_held-refused held)
-private-refused (calls.LockInt l) kind nested held migration = nested-refused nested (if_held held) (if_held-refused held)
-private-refused (calls.Spin l) kind nested held migration = if_held-refused held
-private-refused (calls.Local l) kind nested held migration = if_held-refused held
-private-refused (calls.Read l) (Some locks.RwSem) nested held migration = nested-refused nested (if_held held) (if_held-refused held)
-private-refused (calls.Write l) (Some locks.RwSem) nested held migration = nested-refused nested (if_held held) (if_held-refused held)
-private-refused (calls.Read l) _ nested held migration = if_held-refused held
-private-refused (calls.Write l) _ nested held migration = if_held-refused held
-private-refused (calls.Unlock l) kind nested held migration = if_not_held-refused held
-private-refused (calls.Unspin l) kind nested held migration = if_not_held-refused held
-private-refused (calls.Unread l) kind nested held migration = if_not_held-refused held
-private-refused (calls.Unwrite l) kind nested held migration = if_not_held-refused held
-private-refused (calls.Downgrade l) kind nested held migration = if_not_held-refused held
-private-refused (calls.Unlocal l) kind nested held migration = if_not_held-refused held
-private-refused calls.Schedule kind nested held migration = nested-refused nested None tt
-private-refused (calls.Move cpu) kind nested held migration = cond_both (nat_lt 0 migration) (Some replies.Pinned) None Refused (λ pinned. refl) (λ free. tt)
-private-refused _ kind nested held migration = tt
-
-refused-holds : (thread : ThreadPart) (call : Option Call) (answer : Reply) → refuses answer ≡ true → holds_after thread call answer ≡ thread.holds
+-- an answer that refuses a call changes none
+refused-holds : (thread : ThreadPart) (call : Option Call) (answer : Reply) → is_refusal answer ≡ true → holds_after thread call answer ≡ thread.holds
 refused-holds thread (Some (calls.Lock l)) replies.Deadlock is = refl
 refused-holds thread call replies.Got is = cc
 refused-holds thread call replies.Done is = cc
@@ -245,6 +203,16 @@ refused-holds thread call answer is = refl
 module _ (s : State) (made : ℕ) (t : TaskId) (e : Event) (lawful : IsLawful s made) (owners : OwnersLaw (state_after s e)) where
   abbrev th : ThreadPart
   th = thread_part s t
+
+  -- what it is at a lock with no call on its way, with this hold of it after an answer, and in this phase of a call on it
+  abbrev plain_at : LockId → Look
+  plain_at l = plain_look (has_readers (kind_of th l)) (hold_of th l) th.answered
+
+  abbrev after_at : LockId → Hold → Look
+  after_at l hold = plain_look (has_readers (kind_of th l)) hold (th.answered + 1)
+
+  abbrev seen_in : LockId → Phase → Call → Look
+  seen_in l phase call = look_of phase (Some call) true (has_readers (kind_of th l)) (hold_of th l) th.answered
 
   -- an event x that leaves its thread so
   record IsEvent (x : Event) (left : ThreadPart) : Type 0 where
@@ -302,7 +270,7 @@ module _ (s : State) (made : ℕ) (t : TaskId) (e : Event) (lawful : IsLawful s 
           rw : Bool
           rw = has_readers (kind_of th m)
 
-          was : look th m ≡ plain_look rw (hold_of th m) th.answered
+          was : look th m ≡ plain_at m
           was = plain-phase th.phase (call_of th) (is_on (present_lock th) m) rw (hold_of th m) th.answered plain.before
 
           is : look left m ≡ plain_look rw (hold_of th m) left.answered
@@ -310,7 +278,7 @@ module _ (s : State) (made : ℕ) (t : TaskId) (e : Event) (lawful : IsLawful s 
               ∙ plain-phase left.phase (call_of left) (is_on (present_lock left) m) rw (hold_of th m) left.answered plain.after
 
           still : Quiet (look th m) (look left m)
-          still = subst (λ (b : Look). Quiet b (look left m)) (sym was) (subst (Quiet (plain_look rw (hold_of th m) th.answered)) (sym is) (plain-quiet rw (hold_of th m) (hold_of th m) th.answered left.answered refl refl known.few plain.more))
+          still = subst (λ (b : Look). Quiet b (look left m)) (sym was) (subst (Quiet (plain_at m)) (sym is) (plain-quiet rw (hold_of th m) (hold_of th m) th.answered left.answered refl refl known.few plain.more))
 
   -- ---- a thread whose call is on a lock
 
@@ -325,20 +293,20 @@ module _ (s : State) (made : ℕ) (t : TaskId) (e : Event) (lawful : IsLawful s 
     off_others m ne = ap (λ (lock : Option LockId). is_on lock m) (present-at s t phase call (Some l) at about) ∙ ne
 
     -- what it is there, in any phase
-    seen : (p : Phase) → look (record th { phase = p }) l ≡ look_of p (Some call) true kind (hold_of th l) th.answered
+    seen : (p : Phase) → look (record th { phase = p }) l ≡ seen_in l p call
     seen p = λ i. look_of p (at.calling i) (on i) kind (hold_of th l) th.answered
 
     -- and at every other lock
-    elsewhere : (p : Phase) (m : LockId) → nat_eq l.0 m.0 ≡ false → look (record th { phase = p }) m ≡ plain_look (has_readers (kind_of th m)) (hold_of th m) th.answered
+    elsewhere : (p : Phase) (m : LockId) → nat_eq l.0 m.0 ≡ false → look (record th { phase = p }) m ≡ plain_at m
     elsewhere p m ne = ap (λ (b : Bool). look_of p (call_of th) b (has_readers (kind_of th m)) (hold_of th m) th.answered) (off_others m ne) ∙ plain-elsewhere p (call_of th) (has_readers (kind_of th m)) (hold_of th m) th.answered
 
     turns-at : (x : Event) (left : ThreadPart) (cell : ReaderCell) → IsEvent x left → Cells l cell
-        → (Facts (look_of phase (Some call) true kind (hold_of th l) th.answered) (reader_part s l) → Turn (look_of phase (Some call) true kind (hold_of th l) th.answered) (look left l) (reader_part s l) cell)
-        → ((m : LockId) → nat_eq l.0 m.0 ≡ false → (hold_of th m).reads ≤ th.answered → Quiet (plain_look (has_readers (kind_of th m)) (hold_of th m) th.answered) (look left m)) → ReadersLaw (state_after s e)
+        → (Facts (seen_in l phase call) (reader_part s l) → Turn (seen_in l phase call) (look left l) (reader_part s l) cell)
+        → ((m : LockId) → nat_eq l.0 m.0 ≡ false → (hold_of th m).reads ≤ th.answered → Quiet (plain_at m) (look left m)) → ReadersLaw (state_after s e)
     turns-at x left cell event cells here there = turned-so x left event (λ m. at_each_lock (λ k. Turns k left) l m at_l (at_other m))
       where
-        was : look th l ≡ look_of phase (Some call) true kind (hold_of th l) th.answered
-        was = seen th.phase ∙ ap (λ (p : Phase). look_of p (Some call) true kind (hold_of th l) th.answered) at.phased
+        was : look th l ≡ seen_in l phase call
+        was = seen th.phase ∙ ap (λ (p : Phase). seen_in l p call) at.phased
 
         at_l : Turns l left
         at_l known =
@@ -352,21 +320,21 @@ module _ (s : State) (made : ℕ) (t : TaskId) (e : Event) (lawful : IsLawful s 
 
     -- it goes on in another phase
     goes : (x : Event) (onward : Phase) (cell : ReaderCell) → IsEvent x (record th { phase = onward }) → Cells l cell
-        → (Facts (look_of phase (Some call) true kind (hold_of th l) th.answered) (reader_part s l)
-            → Turn (look_of phase (Some call) true kind (hold_of th l) th.answered) (look_of onward (Some call) true kind (hold_of th l) th.answered) (reader_part s l) cell) → ReadersLaw (state_after s e)
+        → (Facts (seen_in l phase call) (reader_part s l)
+            → Turn (seen_in l phase call) (seen_in l onward call) (reader_part s l) cell) → ReadersLaw (state_after s e)
     goes x onward cell event cells here =
         turns-at x (record th { phase = onward }) cell event cells
-        (λ known. subst (λ (a : Look). Turn (look_of phase (Some call) true kind (hold_of th l) th.answered) a (reader_part s l) cell) (sym (seen onward)) (here known))
-        (λ m ne few. subst (Quiet (plain_look (has_readers (kind_of th m)) (hold_of th m) th.answered)) (sym (elsewhere onward m ne)) (plain-quiet (has_readers (kind_of th m)) (hold_of th m) (hold_of th m) th.answered th.answered refl refl few (omega arith)))
+        (λ known. subst (λ (a : Look). Turn (seen_in l phase call) a (reader_part s l) cell) (sym (seen onward)) (here known))
+        (λ m ne few. subst (Quiet (plain_at m)) (sym (elsewhere onward m ne)) (plain-quiet (has_readers (kind_of th m)) (hold_of th m) (hold_of th m) th.answered th.answered refl refl few (omega arith)))
 
     -- or is answered, and holds the lock so
     ends : (x : Event) (p : Phase) (answer : Reply) (hold : Hold) (cell : ReaderCell) → IsEvent x (answered_with (record th { phase = p }) (Some answer)) → Holding th l hold (holds_after (record th { phase = p }) (Some call) answer) → Cells l cell
-        → (Facts (look_of phase (Some call) true kind (hold_of th l) th.answered) (reader_part s l)
-            → Turn (look_of phase (Some call) true kind (hold_of th l) th.answered) (plain_look kind hold (th.answered + 1)) (reader_part s l) cell) → ReadersLaw (state_after s e)
+        → (Facts (seen_in l phase call) (reader_part s l)
+            → Turn (seen_in l phase call) (after_at l hold) (reader_part s l) cell) → ReadersLaw (state_after s e)
     ends x p answer hold cell event holding cells here =
         turns-at x left cell event cells
-        (λ known. subst (λ (h : Hold). Turn (look_of phase (Some call) true kind (hold_of th l) th.answered) (plain_look kind h (th.answered + 1)) (reader_part s l) cell) (sym (held l ∙ holding.here)) (here known))
-        (λ m ne few. subst (λ (h : Hold). Quiet (plain_look (has_readers (kind_of th m)) (hold_of th m) th.answered) (plain_look (has_readers (kind_of th m)) h (th.answered + 1))) (sym (held m ∙ holding.there m ne))
+        (λ known. subst (λ (h : Hold). Turn (seen_in l phase call) (after_at l h) (reader_part s l) cell) (sym (held l ∙ holding.here)) (here known))
+        (λ m ne few. subst (λ (h : Hold). Quiet (plain_at m) (after_at m h)) (sym (held m ∙ holding.there m ne))
         (plain-quiet (has_readers (kind_of th m)) (hold_of th m) (hold_of th m) th.answered (th.answered + 1) refl refl few (omega arith)))
       where
         left : ThreadPart
@@ -387,16 +355,16 @@ module _ (s : State) (made : ℕ) (t : TaskId) (e : Event) (lawful : IsLawful s 
 
     -- where the lock's reader part stays, too
     ends-quiet : (x : Event) (p : Phase) (answer : Reply) (hold : Hold) → IsEvent x (answered_with (record th { phase = p }) (Some answer)) → Holding th l hold (holds_after (record th { phase = p }) (Some call) answer) → changes_readers x.kind ≡ false
-        → ((hold_of th l).reads ≤ th.answered → Quiet (look_of phase (Some call) true kind (hold_of th l) th.answered) (plain_look kind hold (th.answered + 1))) → ReadersLaw (state_after s e)
+        → ((hold_of th l).reads ≤ th.answered → Quiet (seen_in l phase call) (after_at l hold)) → ReadersLaw (state_after s e)
     ends-quiet x p answer hold event holding keeps quiet =
         ends x p answer hold (reader_part s l) event holding (kept l x event.is keeps)
-        (λ known. quiet-turn (look_of phase (Some call) true kind (hold_of th l) th.answered) (plain_look kind hold (th.answered + 1)) (reader_part s l) known (quiet known.few))
+        (λ known. quiet-turn (seen_in l phase call) (after_at l hold) (reader_part s l) known (quiet known.few))
 
     goes-quiet : (x : Event) (onward : Phase) → IsEvent x (record th { phase = onward }) → changes_readers x.kind ≡ false
-        → ((hold_of th l).reads ≤ th.answered → Quiet (look_of phase (Some call) true kind (hold_of th l) th.answered) (look_of onward (Some call) true kind (hold_of th l) th.answered)) → ReadersLaw (state_after s e)
+        → ((hold_of th l).reads ≤ th.answered → Quiet (seen_in l phase call) (seen_in l onward call)) → ReadersLaw (state_after s e)
     goes-quiet x onward event keeps quiet =
         goes x onward (reader_part s l) event (kept l x event.is keeps)
-        (λ known. quiet-turn (look_of phase (Some call) true kind (hold_of th l) th.answered) (look_of onward (Some call) true kind (hold_of th l) th.answered) (reader_part s l) known (quiet known.few))
+        (λ known. quiet-turn (seen_in l phase call) (seen_in l onward call) (reader_part s l) known (quiet known.few))
 
   -- ---- by the kind of its lock
 
@@ -445,13 +413,13 @@ module _ (s : State) (made : ℕ) (t : TaskId) (e : Event) (lawful : IsLawful s 
       rw : Bool
       rw = has_readers (kind_of th l)
 
-      was : (call : Call) → look_of th.phase (Some call) true rw (hold_of th l) th.answered ≡ plain_look rw (hold_of th l) th.answered
+      was : (call : Call) → seen_in l th.phase call ≡ plain_at l
       was call = plain-phase th.phase (Some call) true rw (hold_of th l) th.answered plain
 
       unheld : (hold_of th l).owns ≡ false
       unheld = (or_parts (hold_of th l).owns (look th l).inside (lawful.owners.owned l t ∙ nobodys (owner_part s l).owner t none)).0
 
-      inside : (hold_of th l).reads ≤ th.answered → Quiet (plain_look rw (hold_of th l) th.answered) (look_of phases.Unbias None true rw (hold_of th l) th.answered)
+      inside : (hold_of th l).reads ≤ th.answered → Quiet (plain_at l) (look_of phases.Unbias None true rw (hold_of th l) th.answered)
       inside = got-quiet rw (hold_of th l) th.answered unheld
 
       got : (call : Call) (k : Kind) → has_readers k ≡ false → (IsForKind th.kinds call → slice_get th.kinds l.0 ≡ Some k) → called_lock th.cpu call ≡ Some l → (Left (Some call) → Left None)
@@ -459,13 +427,13 @@ module _ (s : State) (made : ℕ) (t : TaskId) (e : Event) (lawful : IsLawful s 
       got call k none fit about so holds calling left =
           ends-quiet l th.phase call (at call calling) about x th.phase replies.Got (record (hold_of th l) { owns = true }) (event _ (so left))
           (subst (Holding th l (record (hold_of th l) { owns = true })) (sym holds) (written l th.phase call (at call calling) about lt (record (hold_of th l) { owns = true }))) keeps
-          (λ few. subst (λ (b : Look). Quiet b (plain_look rw (record (hold_of th l) { owns = true }) (th.answered + 1))) (sym (was call)) (other-quiet rw true (hold_of th l) th.answered (other_kind l k (fit (fits call calling)) none) few))
+          (λ few. subst (λ (b : Look). Quiet b (after_at l (record (hold_of th l) { owns = true }))) (sym (was call)) (other-quiet rw true (hold_of th l) th.answered (other_kind l k (fit (fits call calling)) none) few))
 
       onward : (call : Call) (p : Phase) → called_lock th.cpu call ≡ Some l → (Left (Some call) → thread_after (shared s) (thread_part s x.task) x ≡ record th { phase = p })
-          → ((hold_of th l).reads ≤ th.answered → Quiet (plain_look rw (hold_of th l) th.answered) (look_of p (Some call) true rw (hold_of th l) th.answered)) → Acquires call
+          → ((hold_of th l).reads ≤ th.answered → Quiet (plain_at l) (seen_in l p call)) → Acquires call
       onward call p about so quiet calling left =
           goes-quiet l th.phase call (at call calling) about x p (event _ (so left)) keeps
-          (λ few. subst (λ (b : Look). Quiet b (look_of p (Some call) true rw (hold_of th l) th.answered)) (sym (was call)) (quiet few))
+          (λ few. subst (λ (b : Look). Quiet b (seen_in l p call)) (sym (was call)) (quiet few))
 
   -- ---- a release
 
@@ -501,7 +469,7 @@ module _ (s : State) (made : ℕ) (t : TaskId) (e : Event) (lawful : IsLawful s 
 
       passed : (call : Call) (hold : Hold) (coming : ℕ) → called_lock th.cpu call ≡ Some l → (l.0 < length s.locks → IsIn s t phases.Release call → Holding th l hold (holds_after th (Some call) (released_answer (Some call))))
           → (gives_back phases.Release (Some call) ≡ (hold_of th l).owns → hold.owns ≡ false) → hold.reads ≡ (hold_of th l).reads + coming → coming ≤ 1
-          → (Quiet (record (plain_look rw (hold_of th l) th.answered) { inside = true; coming = coming }) (plain_look rw hold (th.answered + 1)) → Quiet (look_of phases.Release (Some call) true rw (hold_of th l) th.answered) (plain_look rw hold (th.answered + 1)))
+          → (Quiet (record (plain_at l) { inside = true; coming = coming }) (after_at l hold) → Quiet (seen_in l phases.Release call) (after_at l hold))
           → IsIn s t phases.Release call → Left call → ReadersLaw (state_after s e)
       passed call hold coming about holding unheld reads one seen here left =
           ends-quiet l phases.Release call here about x th.phase (released_answer (Some call)) hold (event _ left) (holding at.lock here) keeps
@@ -556,21 +524,17 @@ module _ (s : State) (made : ℕ) (t : TaskId) (e : Event) (lawful : IsLawful s 
 
   -- a reader gets in at its call's start
   comes : (l : LockId) (call : Call) → IsMade s t l phases.Start call (rin_event t l (Some replies.Got)) e → called_lock th.cpu call ≡ Some l → holds_after th (Some call) replies.Got ≡ with_read th l
-      → (Facts (plain_look (has_readers (kind_of th l)) (hold_of th l) th.answered) (reader_part s l) → (reader_part s l).writer ≡ false) → ReadersLaw (state_after s e)
+      → (Facts (plain_at l) (reader_part s l) → (reader_part s l).writer ≡ false) → ReadersLaw (state_after s e)
   comes l call is about holds none =
       let hold : Hold = record (hold_of th l) { reads = (hold_of th l).reads + 1 } in
       ends l phases.Start call is.at about _ (phase_after_rin th.phase) replies.Got hold (with_reader (reader_part s l)) (made-event _ l _ _ _ is refl refl)
       (subst (Holding th l hold) (sym holds) (written l phases.Start call is.at about is.lock hold)) (changed l _ is.event refl is.lock)
       (λ known. read-turn (has_readers (kind_of th l)) (hold_of th l) th.answered (reader_part s l) (none known) known)
 
-  -- what its call is on the lock in a phase
-  abbrev seen_in : LockId → Phase → Call → Look
-  seen_in l phase call = look_of phase (Some call) true (has_readers (kind_of th l)) (hold_of th l) th.answered
-
   -- a writer gets in
   gets_in : (l : LockId) (phase : Phase) (call : Call) (x : Event) → Writes call l → IsMade s t l phase call x e → x.task ≡ t → thread_after (shared s) (thread_part s x.task) x ≡ answered_with th (Some replies.Got) → Cells l (with_writer (reader_part s l))
       → (Facts (seen_in l phase call) (reader_part s l) → has_readers (kind_of th l) ≡ true
-          → Turn (seen_in l phase call) (plain_look (has_readers (kind_of th l)) (record (hold_of th l) { owns = true }) (th.answered + 1)) (reader_part s l) (with_writer (reader_part s l)))
+          → Turn (seen_in l phase call) (after_at l (record (hold_of th l) { owns = true })) (reader_part s l) (with_writer (reader_part s l)))
       → ReadersLaw (state_after s e)
   gets_in l phase call x writes is own left cells turn =
       let about : called_lock th.cpu call ≡ Some l = writes-holds (λ c. called_lock th.cpu c ≡ Some l) call l writes refl refl in
@@ -588,7 +552,7 @@ module _ (s : State) (made : ℕ) (t : TaskId) (e : Event) (lawful : IsLawful s 
       let rw : Bool = has_readers (kind_of th l) in
       let left : ReaderCell = without_writer (nat_eq value 1) (reader_part s l) in
       goes l phase call is.at about _ phases.Release left (made-event _ l _ _ _ is refl refl) (changed l _ is.event refl is.lock)
-      (λ known. subst (λ (n : ℕ). Turn (seen_in l phase call) (record (plain_look rw (hold_of th l) th.answered) { inside = true; coming = n }) (reader_part s l) left) (sym more)
+      (λ known. subst (λ (n : ℕ). Turn (seen_in l phase call) (record (plain_at l) { inside = true; coming = n }) (reader_part s l) left) (sym more)
       (open-turn rw (hold_of th l) th.answered (reader_part s l) (seen_in l phase call) coming left refl none also refl owns bias writer count known))
 
   reads : (l : LockId) → IsReading s t l e → ReadersLaw (state_after s e)
@@ -690,7 +654,7 @@ module _ (s : State) (made : ℕ) (t : TaskId) (e : Event) (lawful : IsLawful s 
 
   by_kind : IsNext s t e → ReadersLaw (state_after s e)
   by_kind (by_own call answer is) =
-      plain-event _ _ is.event refl is.at.task refl refl (answered th.phase answer (refused-holds th (call_of th) answer (subst Refused is.why (private-refused call _ _ _ _))) (ap is_plain is.at.phased))
+      plain-event _ _ is.event refl is.at.task refl refl (answered th.phase answer (refused-holds th (call_of th) answer (own-refuses s t call answer e is)) (ap is_plain is.at.phased))
   by_kind (by_acquire l (is_fast is)) = acquires _ l is.event refl is.task is.lock refl is.owner (fast-acquiring s t l is.how) (fast-plain l is.how) refl
   by_kind (by_acquire l (is_mark is)) = plain-event _ _ is.event refl is.task refl refl (moved phases.Slow refl (asks-plain l is.how))
   by_kind (by_acquire l (is_take is)) =

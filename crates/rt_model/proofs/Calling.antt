@@ -26,15 +26,12 @@ at_call s t call at = there (slice_get_cases s.threads t.0).1
         no_call : slice_get s.threads t.0 ≡ None → ⊥
         no_call none = let gone : call_of (thread_part s t) ≡ None = rw none refl in cc
 
--- what holds of each call of a state's threads holds of the one that a task is at
-pub each_call : (P : ThreadPart → Call → Type 0) (s : State) (t : TaskId) (call : Call) → All (λ (thread : ThreadPart). All (P thread) thread.calls) s.threads → call_of (thread_part s t) ≡ Some call → P (thread_part s t) call
-each_call P s t call holds at =
-    let all = All-at (λ (thread : ThreadPart). All (P thread) thread.calls) s.threads t.0 (thread_part s t) holds (at_call s t call at).0 in
-    All-at (P (thread_part s t)) (thread_part s t).calls (thread_part s t).answered call all at
-
 -- a call of a state's thread is served
 pub served_call : (s : State) (t : TaskId) (call : Call) → IsStaged s → call_of (thread_part s t) ≡ Some call → IsServed (length s.threads) (length s.locks) call
-served_call s t call staged = each_call (λ thread. IsServed (length s.threads) (length s.locks)) s t call staged.served
+served_call s t call staged at =
+    let here = at_call s t call at in
+    let all = All-at (λ (thread : ThreadPart). All (IsServed (length s.threads) (length s.locks)) thread.calls) s.threads t.0 (thread_part s t) staged.served here.0 in
+    All-at (IsServed (length s.threads) (length s.locks)) (thread_part s t).calls (thread_part s t).answered call all at
 
 -- the task is in this phase of this call, which names what is in the state
 pub record IsIn (s : State) (t : TaskId) (phase : Phase) (call : Call) : Type 0 where

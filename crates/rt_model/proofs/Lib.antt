@@ -48,3 +48,5 @@ pub mod Starts
 pub mod Prefixes
 pub mod Runs
 pub mod Lowest
+-- what each step on a reader part finds
+pub mod ReaderSteps

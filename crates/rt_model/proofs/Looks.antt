@@ -143,7 +143,7 @@ plain-quiet rw was hold answered more owns reads few lt = record { closed = owns
 -- ---- one by one
 
 -- a thread that is on its way through the inner lock, and holds the lock for writing or not, isn't in
-out : (rw owns : Bool) → (rw && owns && false) ≡ false
+pub out : (rw owns : Bool) → (rw && owns && false) ≡ false
 out true true = refl
 out true false = refl
 out false owns = refl

@@ -15,11 +15,11 @@ module _ {X : Type 0} (f : X → ℕ) where
   sum-update (x ∷ xs) zero g d lt = omega (arith, sum-first x xs, sum-first (g x) xs)
   sum-update (x ∷ xs) (suc i) g d lt = let rest = sum-update xs i g d (omega (arith, lt)) in omega (arith, sum-first x xs, sum-first x (update xs i g), rest)
 
-  -- an element counts for no more than all
-  pub sum-part : (xs : List X) (i : ℕ) (d : X) → i < length xs → f (unwrap_or (slice_get xs i) d) ≤ sum (map f xs)
-  sum-part [] i d lt = absurd (omega (arith, lt))
-  sum-part (x ∷ xs) zero d lt = omega (arith, sum-first x xs)
-  sum-part (x ∷ xs) (suc i) d lt = let rest = sum-part xs i d (omega (arith, lt)) in omega (arith, sum-first x xs, rest)
+  -- an element counts for no more than all, also one that isn't there, where that counts nothing
+  pub sum-part : (xs : List X) (i : ℕ) (d : X) → f d ≡ 0 → f (unwrap_or (slice_get xs i) d) ≤ sum (map f xs)
+  sum-part [] i d none = omega (arith, none)
+  sum-part (x ∷ xs) zero d none = omega (arith, sum-first x xs)
+  sum-part (x ∷ xs) (suc i) d none = let rest = sum-part xs i d none in omega (arith, sum-first x xs, rest)
 
 module _ {X : Type 0} (f g : X → ℕ) (d : X) where
   -- each element counts for no more by f than by g

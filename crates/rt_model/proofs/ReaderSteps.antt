@@ -26,7 +26,7 @@ use Rattle.rt_model.specs.laws.Lawful.{IsLawful}
 use Rattle.rt_model.specs.laws.Readers.{has_come, coming, going, readers_by}
 use Rattle.rt_model.specs.laws.Shape.{calls_of}
 use Rattle.rt_model.proofs.Lists.{All-read, All-made}
-use Rattle.rt_model.proofs.Counts.{sum-less}
+use Rattle.rt_model.proofs.Counts.{sum-part, sum-less}
 use Rattle.rt_model.proofs.Calling.{at_call, IsIn, Writes, writes-holds}
 use Rattle.rt_model.proofs.Looks.{Facts, off, out}
 use Rattle.rt_model.proofs.NextEvents.{IsNext, by_own, by_acquire, by_wait, by_release, by_reading, by_walk, by_confirm, by_wakeup, by_setprio, task-IsNext}
@@ -108,6 +108,12 @@ fewer s made t l phase call lawful within at not_yet =
         (λ i. readers-most l (thread_part s (record { 0 = i })) (within (record { 0 = i })) (lawful.readers.few l (record { 0 = i }))) at.task
         (readers-less l (thread_part s t) (within t) (lawful.readers.few l t) call at.calling nobody) in
     omega (arith, all, lawful.readers.count l, lawful.shape.few_calls)
+
+-- and no thread has more read holds of one
+pub reads-most : (s : State) (made : ℕ) (t : TaskId) (l : LockId) → IsLawful s made → AnswersWithin s → (hold_of (thread_part s t) l).reads ≤ MAX_CALLS
+reads-most s made t l lawful within =
+    let part : length (thread_part s t).calls ≤ calls_of s.threads = sum-part (λ (thread : ThreadPart). length thread.calls) s.threads t.0 no_thread refl in
+    omega (arith, part, within t, lawful.readers.few l t, lawful.shape.few_calls)
 
 -- ---- what an event finds
 

@@ -73,13 +73,13 @@ module _ (s : State) (made : ℕ) (lawful : IsLawful s made) (t : TaskId) (l : L
   nobody_writes None is = refl
   nobody_writes (Some u) is = not_off (is_closing (thread_part s u) l) (is_writing (thread_part s u) l) is
 
-  pub facts : t.0 < length s.threads → Facts (look (thread_part s t) l) (reader_part s l)
-  facts there = record {
+  pub facts : Facts (look (thread_part s t) l) (reader_part s l)
+  facts = record {
     bias = λ has. lawful.readers.bias l ∙ ap (λ (o : Option TaskId). not (of_owner (λ thread. is_closing thread l || is_writing thread l) s o)) (its has);
     writer = λ has. lawful.readers.writer l ∙ ap (of_owner (λ thread. is_writing thread l) s) (its has);
     nobody = λ set. lawful.readers.writer l ∙ nobody_writes (owner_part s l).owner (sym (lawful.readers.bias l) ∙ set);
     alone = lawful.readers.alone l;
-    most = subst (λ (n : ℕ). readers_by (thread_part s t) l ≤ n) (sym (lawful.readers.count l)) (sum-part (λ (thread : ThreadPart). readers_by thread l) s.threads t.0 no_thread there);
+    most = subst (λ (n : ℕ). readers_by (thread_part s t) l ≤ n) (sym (lawful.readers.count l)) (sum-part (λ (thread : ThreadPart). readers_by thread l) s.threads t.0 no_thread refl);
     gone = lawful.readers.gone l t;
     few = lawful.readers.few l t;
   }
@@ -171,7 +171,7 @@ module _ (s : State) (made : ℕ) (t : TaskId) (e : Event) (lawful : IsLawful s 
   }
     where
       turn : (m : LockId) → Turn (look (thread_part s t) m) (look (thread_part (state_after s e) t) m) (reader_part s m) (reader_part (state_after s e) m)
-      turn m = turns m (facts s made lawful t m there)
+      turn m = turns m (facts s made lawful t m)
 
       Turned : LockId → Type 0
       Turned m = Flags (look (thread_part s t) m) (look (thread_part (state_after s e) t) m) (reader_part s m) (reader_part (state_after s e) m)
@@ -240,7 +240,7 @@ module _ (s : State) (made : ℕ) (t : TaskId) (lawful : IsLawful s made) where
 
     -- what the state says of that
     pub known : Facts (seen_in l phase call) (reader_part s l)
-    known = subst (λ (b : Look). Facts b (reader_part s l)) was (facts s made lawful t l at.task)
+    known = subst (λ (b : Look). Facts b (reader_part s l)) was (facts s made lawful t l)
 
   -- by its call the lock is of a reader/writer kind, or of another
   other_kind : (l : LockId) (k : Kind) → slice_get th.kinds l.0 ≡ Some k → has_readers k ≡ false → has_readers (kind_of th l) ≡ false

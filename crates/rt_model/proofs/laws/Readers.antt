@@ -379,7 +379,8 @@ module _ (s : State) (made : ℕ) (t : TaskId) (lawful : IsLawful s made) where
       as_held = record { here = refl; there = λ m ne. refl }
 
       -- where the lock's reader part stays, too
-      ends-quiet : (x : Event) (p : Phase) (answer : Reply) (hold : Hold) → IsEvent x (answered_with (record th { phase = p }) (Some answer)) → Holding th l hold (holds_after (record th { phase = p }) (Some call) answer) → changes_readers x.kind ≡ false
+      ends-quiet : (x : Event) (p : Phase) (answer : Reply) (hold : Hold) → IsEvent x (answered_with (record th { phase = p }) (Some answer)) → Holding th l hold (holds_after (record th { phase = p }) (Some call) answer)
+          → changes_readers x.kind ≡ false
           → ((hold_of th l).reads ≤ th.answered → Quiet (seen_in l phase call) (after_at l hold)) → ReadersLaw (state_after s e)
       ends-quiet x p answer hold event holding keeps quiet =
           ends x p answer hold (reader_part s l) event holding (kept l x event.is keeps)
@@ -520,7 +521,8 @@ module _ (s : State) (made : ℕ) (t : TaskId) (lawful : IsLawful s made) where
             goes l phases.Start (calls.Unread l) is.at refl x phases.WakeWriter (without_reader (reader_part s l)) (made-event _ l _ x _ is refl (left true told)) (changed l x is.event refl is.lock)
             (last-turn (has_readers (kind_of th l)) (hold_of th l) th.answered (reader_part s l) one)
         by_test false told =
-            ends l phases.Start (calls.Unread l) is.at refl x th.phase replies.Done _ (without_reader (reader_part s l)) (made-event _ l _ x _ is refl (left false told)) (written l phases.Start (calls.Unread l) is.at refl is.lock _) (changed l x is.event refl is.lock)
+            ends l phases.Start (calls.Unread l) is.at refl x th.phase replies.Done _ (without_reader (reader_part s l)) (made-event _ l _ x _ is refl (left false told))
+            (written l phases.Start (calls.Unread l) is.at refl is.lock _) (changed l x is.event refl is.lock)
             (out-turn (has_readers (kind_of th l)) (hold_of th l) th.answered (reader_part s l) one)
 
     not_set : (b : Bool) → not b ≡ true → b ≡ false
@@ -537,7 +539,8 @@ module _ (s : State) (made : ℕ) (t : TaskId) (lawful : IsLawful s made) where
         (λ known. read-turn (has_readers (kind_of th l)) (hold_of th l) th.answered (reader_part s l) (none known) known)
 
     -- a writer gets in
-    gets_in : (l : LockId) (phase : Phase) (call : Call) (x : Event) → Writes call l → IsMade s t l phase call x e → x.task ≡ t → thread_after (shared s) (thread_part s x.task) x ≡ answered_with th (Some replies.Got) → Cells l (with_writer (reader_part s l))
+    gets_in : (l : LockId) (phase : Phase) (call : Call) (x : Event) → Writes call l → IsMade s t l phase call x e → x.task ≡ t → thread_after (shared s) (thread_part s x.task) x ≡ answered_with th (Some replies.Got)
+        → Cells l (with_writer (reader_part s l))
         → (Facts (seen_in l phase call) (reader_part s l) → has_readers (kind_of th l) ≡ true
             → Turn (seen_in l phase call) (after_at l (record (hold_of th l) { owns = true })) (reader_part s l) (with_writer (reader_part s l)))
         → ReadersLaw (state_after s e)
@@ -675,7 +678,8 @@ module _ (s : State) (made : ℕ) (t : TaskId) (lawful : IsLawful s made) where
     by_kind (by_release l (is_give is)) = releases _ l is.event refl refl is.at refl
     by_kind (by_reading l is) = reads l is
     by_kind (by_walk route u (is_walk l key is)) =
-        walks _ u route (followed u l route) (owner_part s l).owner _ is.event refl is.task refl (ap is_plain (walk-phase s t route u is.how)) (link-thread s made t route u l key e lawful is) (SameSort-followed u l route) (walk-fits s t route u lawful.phases is.how)
+        walks _ u route (followed u l route) (owner_part s l).owner _ is.event refl is.task refl (ap is_plain (walk-phase s t route u is.how)) (link-thread s made t route u l key e lawful is)
+        (SameSort-followed u l route) (walk-fits s t route u lawful.phases is.how)
     by_kind (by_walk route u (is_walkend is)) =
         walks _ u route route None (task_part s u) is.event refl is.task refl (ap is_plain (walk-phase s t route u is.how)) (end-thread s t route u e is) (SameSort-itself route) (walk-fits s t route u lawful.phases is.how)
     by_kind (by_confirm l path (is_restart link is)) = plain-event _ _ is.event refl is.at.at.task refl refl (moved (phases.Walk t (Full [])) refl (ap is_plain is.at.at.phased))
@@ -685,7 +689,8 @@ module _ (s : State) (made : ℕ) (t : TaskId) (lawful : IsLawful s made) where
     by_kind (by_wakeup (is_wake u is)) = called (calls.Wake u) (wake_answer (task_part s u)) _ is.at is.event refl refl refl refl
     by_kind (by_wakeup (is_signal u is)) = called (calls.Signal u) (signal_answer (task_part s u)) _ is.at is.event refl refl refl refl
     by_kind (by_setprio u prio is) =
-        walks _ u (Short replies.Done) (Short replies.Done) (Some u) (with_own prio (task_part s u)) is.event refl is.at.task refl (ap is_plain is.at.phased) (setprio-thread s made t u prio e lawful is) (SameSort-itself (Short replies.Done)) (setprio-fits s t u prio is.at)
+        walks _ u (Short replies.Done) (Short replies.Done) (Some u) (with_own prio (task_part s u)) is.event refl is.at.task refl (ap is_plain is.at.phased) (setprio-thread s made t u prio e lawful is)
+        (SameSort-itself (Short replies.Done)) (setprio-fits s t u prio is.at)
 
 pub ReadersLaw-next : (s : State) (made : ℕ) (t : TaskId) (e : Event) → IsLawful s made → IsNext s t e → ReadersLaw (state_after s e)
 ReadersLaw-next s made t e lawful next = by_kind s made t lawful e (OwnersLaw-next s made t e lawful next) next

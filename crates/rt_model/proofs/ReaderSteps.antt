@@ -4,68 +4,33 @@ use Rattle.std.specs.Prelude.{nat_eq, sum}
 use Rattle.std.proofs.lemmas.Bool.{or_left, or_right}
 use Rattle.std.proofs.lemmas.Bool.Decides.{nat_tests}
 use Rattle.std.proofs.lemmas.Option.{slice_get_within}
-use Rattle.rt_base.specs.Script.{Script, TaskLine}
 use Rattle.rt_base.specs.declared.call.Call.{Call}
 use Rattle.rt_base.specs.declared.id.LockId.{LockId}
 use Rattle.rt_base.specs.declared.id.TaskId.{TaskId}
 use Rattle.rt_base.specs.declared.limits.TheConstants.{MAX_CALLS}
-use Rattle.rt_base.specs.declared.reply.Reply.{Reply}
 use Rattle.rt_model.specs.declared.event.Event.{Event}
 use Rattle.rt_model.specs.declared.phase.Phase.{Phase}
 use Rattle.rt_model.specs.declared.phase.Phase.TheVariants as phases
 use Rattle.rt_model.specs.Parts.{ThreadPart, call_of, hold_of, kind_of, has_readers}
 use Rattle.rt_model.specs.Choice.{present_lock, is_on, called_lock}
-use Rattle.rt_model.specs.State.{State, kinds_in, fresh_thread, start, no_thread, shared, reader_part, thread_part}
+use Rattle.rt_model.specs.State.{State, no_thread, reader_part, thread_part}
 use Rattle.rt_model.specs.Stage.{IsForKind, HasReadersAt}
-use Rattle.rt_model.specs.Effect.{around}
 use Rattle.rt_model.specs.Rules.{touched}
-use Rattle.rt_model.specs.StateAfter.{shared_after, state_after}
 use Rattle.rt_model.specs.steps.Readers.{CanStep}
-use Rattle.rt_model.specs.steps.Thread.{answered_with}
 use Rattle.rt_model.specs.laws.Lawful.{IsLawful}
 use Rattle.rt_model.specs.laws.Readers.{has_come, coming, going, readers_by}
 use Rattle.rt_model.specs.laws.Shape.{calls_of}
-use Rattle.rt_model.proofs.Lists.{All-read, All-made}
 use Rattle.rt_model.proofs.Counts.{sum-part, sum-less}
-use Rattle.rt_model.proofs.Calling.{at_call, IsIn, Writes, writes-holds}
+use Rattle.rt_model.proofs.Calling.{IsIn, Writes, writes-holds}
 use Rattle.rt_model.proofs.Looks.{Facts, off, out}
-use Rattle.rt_model.proofs.NextEvents.{IsNext, by_own, by_acquire, by_wait, by_release, by_reading, by_walk, by_confirm, by_wakeup, by_setprio, task-IsNext}
-use Rattle.rt_model.proofs.PartsAfter.{thread-phase, thread-made}
+use Rattle.rt_model.proofs.NextEvents.{IsNext, by_own, by_acquire, by_wait, by_release, by_reading, by_walk, by_confirm, by_wakeup, by_setprio}
 use Rattle.rt_model.proofs.events.Acquire.{is_fast, is_mark, is_take, is_busy}
 use Rattle.rt_model.proofs.events.Readers.{IsMade, IsReading, is_read, is_tryread, is_let_in, is_shut, is_tryshut, is_out, is_wwake, is_unbias, is_in, is_sleep, is_given_up, is_in_late, is_sleep_again, is_opened, is_downgraded}
 use Rattle.rt_model.proofs.events.Release.{is_free, is_give}
 use Rattle.rt_model.proofs.events.Wait.{is_wait, is_again, is_leave}
 use Rattle.rt_model.proofs.events.Wakeups.{is_state, is_sched, is_wake, is_signal}
 use Rattle.rt_model.proofs.events.Walk.{is_walk, is_walkend, is_restart, is_cycle}
-use Rattle.rt_model.proofs.laws.Migration.{its_answer}
 use Rattle.rt_model.proofs.laws.Readers.{seen_in, known, reader_kind, fits}
-
--- ---- answers
-
--- no thread has more answers than calls
-abbrev pub AnswersWithin : State → Type 0
-AnswersWithin s = (t : TaskId) → (thread_part s t).answered ≤ length (thread_part s t).calls
-
-pub AnswersWithin-start : (script : Script) → AnswersWithin (start script)
-AnswersWithin-start script t =
-    All-read (λ (thread : ThreadPart). thread.answered ≤ length thread.calls) (start script).threads t.0 no_thread
-    (All-made (λ (thread : ThreadPart). thread.answered ≤ length thread.calls) (λ (line : TaskLine). fresh_thread (kinds_in script) line.calls line.cpu) (λ line. omega arith) script.tasks) (omega arith)
-
-replied : (thread : ThreadPart) (reply : Option Reply) → thread.answered < length thread.calls → (answered_with thread reply).answered ≤ length (answered_with thread reply).calls
-replied thread None lt = omega (arith, lt)
-replied thread (Some answer) lt = omega (arith, lt)
-
--- a next event answers a call that is there
-pub AnswersWithin-next : (s : State) (made : ℕ) (t : TaskId) (e : Event) → IsLawful s made → IsNext s t e → AnswersWithin s → AnswersWithin (state_after s e)
-AnswersWithin-next s made t e lawful next within u =
-    let at = its_answer s t made e lawful next in
-    let moved = thread-phase e.kind e thread (around (shared s) (touched e.kind e)) (around (shared_after (shared s) thread e) (touched e.kind e)) thread in
-    let calling : call_of thread ≡ Some at.call = subst (λ (v : TaskId). call_of (thread_part s v) ≡ Some at.call) (sym (task-IsNext s t e next)) at.calling in
-    thread-made (λ v left. left.answered ≤ length left.calls) s e e u refl (at_call s e.task at.call calling).1
-    (subst (λ (left : ThreadPart). (answered_with left e.reply).answered ≤ length (answered_with left e.reply).calls) (sym moved) (replied _ e.reply (slice_get_within thread.calls thread.answered at.call calling))) (λ other. within u)
-  where
-    thread : ThreadPart
-    thread = thread_part s e.task
 
 -- ---- how many readers there are
 
@@ -100,20 +65,20 @@ module _ (l : LockId) (thread : ThreadPart) (within : thread.answered ≤ length
       let less : (hold_of thread l).reads + coming thread l - going thread l < length thread.calls = omega (arith, slice_get_within thread.calls thread.answered call calling, few, nobody) in less
 
 -- so a lock has fewer readers than a script may have calls, where one more comes
-fewer : (s : State) (made : ℕ) (t : TaskId) (l : LockId) (phase : Phase) (call : Call) → IsLawful s made → AnswersWithin s → IsIn s t phase call → has_come phase (Some call) ≡ false → (reader_part s l).count < MAX_CALLS
-fewer s made t l phase call lawful within at not_yet =
-    let nobody : coming (thread_part s t) l ≡ 0 = none-comes l (thread_part s t) (within t) (lawful.readers.few l t) ((λ i. has_come (at.phased i) (at.calling i)) ∙ not_yet) in
+fewer : (s : State) (made : ℕ) (t : TaskId) (l : LockId) (phase : Phase) (call : Call) → IsLawful s made → IsIn s t phase call → has_come phase (Some call) ≡ false → (reader_part s l).count < MAX_CALLS
+fewer s made t l phase call lawful at not_yet =
+    let nobody : coming (thread_part s t) l ≡ 0 = none-comes l (thread_part s t) (lawful.readers.within t) (lawful.readers.few l t) ((λ i. has_come (at.phased i) (at.calling i)) ∙ not_yet) in
     let all : sum (map (λ (thread : ThreadPart). readers_by thread l) s.threads) < calls_of s.threads =
         sum-less (λ (thread : ThreadPart). readers_by thread l) (λ (thread : ThreadPart). length thread.calls) no_thread s.threads t.0
-        (λ i. readers-most l (thread_part s (record { 0 = i })) (within (record { 0 = i })) (lawful.readers.few l (record { 0 = i }))) at.task
-        (readers-less l (thread_part s t) (within t) (lawful.readers.few l t) call at.calling nobody) in
+        (λ i. readers-most l (thread_part s (record { 0 = i })) (lawful.readers.within (record { 0 = i })) (lawful.readers.few l (record { 0 = i }))) at.task
+        (readers-less l (thread_part s t) (lawful.readers.within t) (lawful.readers.few l t) call at.calling nobody) in
     omega (arith, all, lawful.readers.count l, lawful.shape.few_calls)
 
 -- and no thread has more read holds of one
-pub reads-most : (s : State) (made : ℕ) (t : TaskId) (l : LockId) → IsLawful s made → AnswersWithin s → (hold_of (thread_part s t) l).reads ≤ MAX_CALLS
-reads-most s made t l lawful within =
+pub reads-most : (s : State) (made : ℕ) (t : TaskId) (l : LockId) → IsLawful s made → (hold_of (thread_part s t) l).reads ≤ MAX_CALLS
+reads-most s made t l lawful =
     let part : length (thread_part s t).calls ≤ calls_of s.threads = sum-part (λ (thread : ThreadPart). length thread.calls) s.threads t.0 no_thread refl in
-    omega (arith, part, within t, lawful.readers.few l t, lawful.shape.few_calls)
+    omega (arith, part, lawful.readers.within t, lawful.readers.few l t, lawful.shape.few_calls)
 
 -- ---- what an event finds
 
@@ -127,7 +92,7 @@ is_writing_by true true rw owns = refl
 is_writing_by true false rw owns = cc
 is_writing_by false owns rw holds = cc
 
-module _ (s : State) (made : ℕ) (t : TaskId) (e : Event) (lawful : IsLawful s made) (within : AnswersWithin s) where
+module _ (s : State) (made : ℕ) (t : TaskId) (e : Event) (lawful : IsLawful s made) where
   abbrev Fine : Event → Type 0
   Fine x = IfSome (touched x.kind x).readers (λ l. CanStep x.kind x.value (reader_part s l))
 
@@ -169,10 +134,10 @@ module _ (s : State) (made : ℕ) (t : TaskId) (e : Event) (lawful : IsLawful s 
   never is = cc
 
   by_readers : (l : LockId) → IsReading s t l e → Fine e
-  by_readers l (is_read is unheld can) = of_made l _ _ _ is (can, fewer s made t l _ _ lawful within is.at refl)
-  by_readers l (is_tryread is set) = of_made l _ _ _ is (open_to (reader_part s l).writer ((facts-at l _ _ _ is refl).nobody set), fewer s made t l _ _ lawful within is.at refl)
+  by_readers l (is_read is unheld can) = of_made l _ _ _ is (can, fewer s made t l _ _ lawful is.at refl)
+  by_readers l (is_tryread is set) = of_made l _ _ _ is (open_to (reader_part s l).writer ((facts-at l _ _ _ is refl).nobody set), fewer s made t l _ _ lawful is.at refl)
   by_readers l (is_let_in is) =
-      of_made l _ _ _ is (open_to (reader_part s l).writer ((facts-at l _ _ _ is refl).writer (or_right (held l) true refl) ∙ out (rw l) (held l)), fewer s made t l _ _ lawful within is.at refl)
+      of_made l _ _ _ is (open_to (reader_part s l).writer ((facts-at l _ _ _ is refl).writer (or_right (held l) true refl) ∙ out (rw l) (held l)), fewer s made t l _ _ lawful is.at refl)
   by_readers l (is_shut is unheld cannot) = of_made l _ _ _ is tt
   by_readers l (is_tryshut is off) = of_made l _ _ _ is tt
   by_readers l (is_out is holds) =
@@ -186,7 +151,7 @@ module _ (s : State) (made : ℕ) (t : TaskId) (e : Event) (lawful : IsLawful s 
   by_readers l (is_sleep_again is runs cannot) = of_made l _ _ _ is tt
   by_readers l (is_given_up is cannot) = of_made l _ _ _ is ((unbiased-finds l _ _ _ is refl refl refl).0, λ one. absurd (never one))
   by_readers l (is_opened is owns) = of_made l _ _ _ is ((written-finds l _ _ is refl (λ fit. fit) owns).0, λ one. absurd (never one))
-  by_readers l (is_downgraded is owns) = let finds = written-finds l _ _ is refl (λ fit. fit) owns in of_made l _ _ _ is (finds.0, λ one. (finds.1, fewer s made t l _ _ lawful within is.at refl))
+  by_readers l (is_downgraded is owns) = let finds = written-finds l _ _ is refl (λ fit. fit) owns in of_made l _ _ _ is (finds.0, λ one. (finds.1, fewer s made t l _ _ lawful is.at refl))
 
   by_kind : IsNext s t e → Fine e
   by_kind (by_own call answer is) = subst Fine (sym is.event) tt
@@ -210,6 +175,6 @@ module _ (s : State) (made : ℕ) (t : TaskId) (e : Event) (lawful : IsLawful s 
   by_kind (by_wakeup (is_signal u is)) = subst Fine (sym is.event) tt
   by_kind (by_setprio u prio is) = subst Fine (sym is.event) tt
 
--- each next event finds what its step asks, as long as no thread has more answers than calls
-pub reader-step : (s : State) (made : ℕ) (t : TaskId) (e : Event) → IsLawful s made → AnswersWithin s → IsNext s t e → IfSome (touched e.kind e).readers (λ l. CanStep e.kind e.value (reader_part s l))
-reader-step s made t e lawful within next = by_kind s made t e lawful within next
+-- each next event finds what its step asks
+pub reader-step : (s : State) (made : ℕ) (t : TaskId) (e : Event) → IsLawful s made → IsNext s t e → IfSome (touched e.kind e).readers (λ l. CanStep e.kind e.value (reader_part s l))
+reader-step s made t e lawful next = by_kind s made t e lawful next

@@ -3,6 +3,7 @@ use Rattle.std.proofs.Common.{◌≡◌, ℕ, ◌+◌, ◌-◌, ◌<◌, ◌≤�
 use Rattle.std.specs.Prelude.{slice_get, slice_set, nat_eq, nat_lt, option_map}
 use Rattle.std.proofs.lemmas.Bool.{or_parts, or_left, or_right}
 use Rattle.std.proofs.lemmas.Bool.Decides.{nat_tests}
+use Rattle.std.proofs.lemmas.Option.{slice_get_within}
 use Rattle.rt_base.specs.declared.call.Call.{Call}
 use Rattle.rt_base.specs.declared.call.Call.TheVariants as calls
 use Rattle.rt_base.specs.declared.id.LockId.{LockId}
@@ -22,8 +23,9 @@ use Rattle.rt_model.specs.Parts.{TaskPart, ThreadPart, call_of, hold_of, kind_of
 use Rattle.rt_model.specs.Choice.{called_lock, present_lock, is_on}
 use Rattle.rt_model.specs.State.{State, shared, no_readers, no_thread, owner_part, reader_part, task_part, thread_part}
 use Rattle.rt_model.specs.Stage.{IsForKind, HasReadersAt, IsPhaseOf}
+use Rattle.rt_model.specs.Effect.{around}
 use Rattle.rt_model.specs.Rules.{touched}
-use Rattle.rt_model.specs.StateAfter.{effect_in, thread_after, state_after}
+use Rattle.rt_model.specs.StateAfter.{effect_in, shared_after, thread_after, state_after}
 use Rattle.rt_model.specs.steps.Chain.{followed, goes_on}
 use Rattle.rt_model.specs.steps.Readers.{with_reader, without_reader, wakes_writer, unbiased, with_writer, without_writer}
 use Rattle.rt_model.specs.steps.Task.{with_own, wake_answer, signal_answer}
@@ -36,16 +38,16 @@ use Rattle.rt_model.specs.laws.Readers.{is_unbiased, is_closing, is_writing, of_
 use Rattle.rt_model.proofs.Counts.{sum-update, sum-part}
 use Rattle.rt_model.proofs.Numbers.{number_itself, other_number, at_each_task, at_each_lock, one_owner, owner-is, nobodys}
 use Rattle.rt_model.proofs.Looks.{Look, look, look_of, plain_look, writing, off, has_part, reading, is_plain, plain-phase, plain-elsewhere, Facts, Turn, Flags, as_were, its_own, Quiet, quiet-turn, plain-quiet, got-quiet, released-quiet, woken-quiet, slept-quiet, read-turn, let_in-turn, out-turn, last-turn, unbias-turn, open-turn, written-turn}
-use Rattle.rt_model.proofs.Calling.{served_call, IsIn, Returns, ReturnsBy, from_hold, from_inside, tries-holds, releases-holds, ends-holds, Writes, writes_by, writes-holds}
+use Rattle.rt_model.proofs.Calling.{at_call, served_call, IsIn, Returns, ReturnsBy, from_hold, from_inside, tries-holds, releases-holds, ends-holds, Writes, writes_by, writes-holds}
 use Rattle.rt_model.proofs.Inside.{present-at, inside-at}
 use Rattle.rt_model.proofs.events.Acquire.{AsksBy, from_start, from_reading, AcquiresIn, by_asking, by_trying, TakesIn, from_slow, from_wait, from_trying, is_fast, is_mark, is_take, is_busy, IsAcquiring, fast-acquiring, take-acquiring, acquiring-holds}
 use Rattle.rt_model.proofs.events.Release.{is_free, is_give}
 use Rattle.rt_model.proofs.events.Wait.{is_wait, is_again, is_leave}
 use Rattle.rt_model.proofs.events.Walk.{is_walk, is_walkend, is_restart, is_cycle}
 use Rattle.rt_model.proofs.events.Wakeups.{is_state, is_sched, is_wake, is_signal}
-use Rattle.rt_model.proofs.NextEvents.{IsNext, by_own, by_acquire, by_wait, by_release, by_reading, by_walk, by_confirm, by_wakeup, by_setprio}
+use Rattle.rt_model.proofs.NextEvents.{IsNext, by_own, by_acquire, by_wait, by_release, by_reading, by_walk, by_confirm, by_wakeup, by_setprio, task-IsNext}
 use Rattle.rt_model.proofs.ToCome.{to_come-holds}
-use Rattle.rt_model.proofs.laws.Migration.{call-fits}
+use Rattle.rt_model.proofs.laws.Migration.{call-fits, its_answer}
 use Rattle.rt_model.proofs.laws.Owners.{is_refusal, own-refuses, OwnersLaw-next}
 use Rattle.rt_model.proofs.Queues.{unowned-can_take}
 use Rattle.rt_model.proofs.Leaves.{IsLeft, by_leave, by_cycle, left_answer, left_kind, left_phase, left_made, left-is, left-asks, left-there, left-fits, left-thread, leave-left, cycle-left}
@@ -53,7 +55,7 @@ use Rattle.rt_model.proofs.Links.{walked_thread, link-thread, end-thread, setpri
 use Rattle.rt_model.proofs.Routes.{walk-fits, setprio-fits, SameSort, SameSort-itself, SameSort-followed, walked-holds}
 use Rattle.rt_model.proofs.Waiters.{walk-phase}
 use Rattle.rt_model.proofs.events.Readers.{IsMade, IsReading, is_read, is_tryread, is_let_in, is_shut, is_tryshut, is_out, is_wwake, is_unbias, is_in, is_sleep, is_given_up, is_in_late, is_sleep_again, is_opened, is_downgraded}
-use Rattle.rt_model.proofs.PartsAfter.{read-update, read-set_same, read-set_other, readers-made, readers-kept, changes_readers, thread-own, thread-other}
+use Rattle.rt_model.proofs.PartsAfter.{read-update, read-set_same, read-set_other, readers-made, readers-kept, changes_readers, thread-phase, thread-own, thread-other, thread-made}
 use Rattle.rt_model.proofs.Within.{holds_room, readers_room}
 
 -- ---- what a lawful state says of a look
@@ -123,6 +125,28 @@ module _ (l : LockId) (test : ThreadPart → Bool) (needs : (thread : ThreadPart
             let unowned : owned_by (owner_part s l).owner u ≡ false = one_owner (owner_part s l).owner t u (sym (before.owned l t) ∙ has) ne in
             let never : true ≡ false = sym owned ∙ unowned in absurd cc
 
+-- ---- answers
+
+-- no thread has more answers than calls
+abbrev Within : State → Type 0
+Within s = (t : TaskId) → (thread_part s t).answered ≤ length (thread_part s t).calls
+
+replied : (thread : ThreadPart) (reply : Option Reply) → thread.answered < length thread.calls → (answered_with thread reply).answered ≤ length (answered_with thread reply).calls
+replied thread None lt = omega (arith, lt)
+replied thread (Some answer) lt = omega (arith, lt)
+
+-- a next event answers a call that is there
+Within-next : (s : State) (made : ℕ) (t : TaskId) (e : Event) → IsLawful s made → IsNext s t e → Within (state_after s e)
+Within-next s made t e lawful next u =
+    let at = its_answer s t made e lawful next in
+    let moved = thread-phase e.kind e thread (around (shared s) (touched e.kind e)) (around (shared_after (shared s) thread e) (touched e.kind e)) thread in
+    let calling : call_of thread ≡ Some at.call = subst (λ (v : TaskId). call_of (thread_part s v) ≡ Some at.call) (sym (task-IsNext s t e next)) at.calling in
+    thread-made (λ v left. left.answered ≤ length left.calls) s e e u refl (at_call s e.task at.call calling).1
+    (subst (λ (left : ThreadPart). (answered_with left e.reply).answered ≤ length (answered_with left e.reply).calls) (sym moved) (replied _ e.reply (slice_get_within thread.calls thread.answered at.call calling))) (λ other. lawful.readers.within u)
+  where
+    thread : ThreadPart
+    thread = thread_part s e.task
+
 -- ---- the law after an event that turns its own thread and its lock so
 
 in_part : (rw owns inside : Bool) → (rw && owns && not inside) ≡ true → (owns || inside) ≡ true
@@ -147,7 +171,7 @@ closing_inside _ on is = cc
 off-part : (l : LockId) (thread : ThreadPart) → (is_closing thread l || is_writing thread l) ≡ true → has_owner_part thread l ≡ true
 off-part l thread = off_part (look thread l).closing (look thread l).inside (has_readers (kind_of thread l)) (hold_of thread l).owns (closing_inside thread.phase (is_on (present_lock thread) l))
 
-module _ (s : State) (made : ℕ) (t : TaskId) (e : Event) (lawful : IsLawful s made) (owners : OwnersLaw (state_after s e)) (own : e.task ≡ t) (there : t.0 < length s.threads) where
+module _ (s : State) (made : ℕ) (t : TaskId) (e : Event) (lawful : IsLawful s made) (owners : OwnersLaw (state_after s e)) (within : Within (state_after s e)) (own : e.task ≡ t) (there : t.0 < length s.threads) where
   others : (u : TaskId) → nat_eq t.0 u.0 ≡ false → thread_part (state_after s e) u ≡ thread_part s u
   others u ne = thread-other s e u (ap (λ (v : TaskId). nat_eq v.0 u.0) own ∙ ne)
 
@@ -168,6 +192,7 @@ module _ (s : State) (made : ℕ) (t : TaskId) (e : Event) (lawful : IsLawful s 
         (λ ne. subst (λ (thread : ThreadPart). going thread m ≤ (hold_of thread m).reads) (sym (others u ne)) (lawful.readers.gone m u));
     few = λ m u. at_each_task (λ v. (hold_of (thread_part (state_after s e) v) m).reads ≤ (thread_part (state_after s e) v).answered) t u (turn m).few
         (λ ne. subst (λ (thread : ThreadPart). (hold_of thread m).reads ≤ thread.answered) (sym (others u ne)) (lawful.readers.few m u));
+    within = within;
   }
     where
       turn : (m : LockId) → Turn (look (thread_part s t) m) (look (thread_part (state_after s e) t) m) (reader_part s m) (reader_part (state_after s e) m)
@@ -258,7 +283,7 @@ module _ (s : State) (made : ℕ) (t : TaskId) (lawful : IsLawful s made) where
 
   -- ---- events that change a lock's reader part at most
 
-  module _ (e : Event) (owners : OwnersLaw (state_after s e)) where
+  module _ (e : Event) (owners : OwnersLaw (state_after s e)) (within : Within (state_after s e)) where
     -- an event x that leaves its thread so
     record IsEvent (x : Event) (left : ThreadPart) : Type 0 where
       is : e ≡ x
@@ -275,7 +300,7 @@ module _ (s : State) (made : ℕ) (t : TaskId) (lawful : IsLawful s made) where
 
     turned-so : (x : Event) (left : ThreadPart) → IsEvent x left → ((m : LockId) → Turns m left) → ReadersLaw (state_after s e)
     turned-so x left event turns =
-        turned s made t e lawful owners (ap (λ (y : Event). y.task) event.is ∙ event.own) event.there (λ m. subst (Turns m) (sym (own-thread x left event)) (turns m))
+        turned s made t e lawful owners within (ap (λ (y : Event). y.task) event.is ∙ event.own) event.there (λ m. subst (Turns m) (sym (own-thread x left event)) (turns m))
 
     -- the reader part of the lock is left so, and every other as it was
     record Cells (l : LockId) (left : ReaderCell) : Type 0 where
@@ -379,7 +404,8 @@ module _ (s : State) (made : ℕ) (t : TaskId) (lawful : IsLawful s made) where
       as_held = record { here = refl; there = λ m ne. refl }
 
       -- where the lock's reader part stays, too
-      ends-quiet : (x : Event) (p : Phase) (answer : Reply) (hold : Hold) → IsEvent x (answered_with (record th { phase = p }) (Some answer)) → Holding th l hold (holds_after (record th { phase = p }) (Some call) answer) → changes_readers x.kind ≡ false
+      ends-quiet : (x : Event) (p : Phase) (answer : Reply) (hold : Hold) → IsEvent x (answered_with (record th { phase = p }) (Some answer)) → Holding th l hold (holds_after (record th { phase = p }) (Some call) answer)
+          → changes_readers x.kind ≡ false
           → ((hold_of th l).reads ≤ th.answered → Quiet (seen_in l phase call) (after_at l hold)) → ReadersLaw (state_after s e)
       ends-quiet x p answer hold event holding keeps quiet =
           ends x p answer hold (reader_part s l) event holding (kept l x event.is keeps)
@@ -520,7 +546,8 @@ module _ (s : State) (made : ℕ) (t : TaskId) (lawful : IsLawful s made) where
             goes l phases.Start (calls.Unread l) is.at refl x phases.WakeWriter (without_reader (reader_part s l)) (made-event _ l _ x _ is refl (left true told)) (changed l x is.event refl is.lock)
             (last-turn (has_readers (kind_of th l)) (hold_of th l) th.answered (reader_part s l) one)
         by_test false told =
-            ends l phases.Start (calls.Unread l) is.at refl x th.phase replies.Done _ (without_reader (reader_part s l)) (made-event _ l _ x _ is refl (left false told)) (written l phases.Start (calls.Unread l) is.at refl is.lock _) (changed l x is.event refl is.lock)
+            ends l phases.Start (calls.Unread l) is.at refl x th.phase replies.Done _ (without_reader (reader_part s l)) (made-event _ l _ x _ is refl (left false told))
+            (written l phases.Start (calls.Unread l) is.at refl is.lock _) (changed l x is.event refl is.lock)
             (out-turn (has_readers (kind_of th l)) (hold_of th l) th.answered (reader_part s l) one)
 
     not_set : (b : Bool) → not b ≡ true → b ≡ false
@@ -537,7 +564,8 @@ module _ (s : State) (made : ℕ) (t : TaskId) (lawful : IsLawful s made) where
         (λ known. read-turn (has_readers (kind_of th l)) (hold_of th l) th.answered (reader_part s l) (none known) known)
 
     -- a writer gets in
-    gets_in : (l : LockId) (phase : Phase) (call : Call) (x : Event) → Writes call l → IsMade s t l phase call x e → x.task ≡ t → thread_after (shared s) (thread_part s x.task) x ≡ answered_with th (Some replies.Got) → Cells l (with_writer (reader_part s l))
+    gets_in : (l : LockId) (phase : Phase) (call : Call) (x : Event) → Writes call l → IsMade s t l phase call x e → x.task ≡ t → thread_after (shared s) (thread_part s x.task) x ≡ answered_with th (Some replies.Got)
+        → Cells l (with_writer (reader_part s l))
         → (Facts (seen_in l phase call) (reader_part s l) → has_readers (kind_of th l) ≡ true
             → Turn (seen_in l phase call) (after_at l (record (hold_of th l) { owns = true })) (reader_part s l) (with_writer (reader_part s l)))
         → ReadersLaw (state_after s e)
@@ -675,7 +703,8 @@ module _ (s : State) (made : ℕ) (t : TaskId) (lawful : IsLawful s made) where
     by_kind (by_release l (is_give is)) = releases _ l is.event refl refl is.at refl
     by_kind (by_reading l is) = reads l is
     by_kind (by_walk route u (is_walk l key is)) =
-        walks _ u route (followed u l route) (owner_part s l).owner _ is.event refl is.task refl (ap is_plain (walk-phase s t route u is.how)) (link-thread s made t route u l key e lawful is) (SameSort-followed u l route) (walk-fits s t route u lawful.phases is.how)
+        walks _ u route (followed u l route) (owner_part s l).owner _ is.event refl is.task refl (ap is_plain (walk-phase s t route u is.how)) (link-thread s made t route u l key e lawful is)
+        (SameSort-followed u l route) (walk-fits s t route u lawful.phases is.how)
     by_kind (by_walk route u (is_walkend is)) =
         walks _ u route route None (task_part s u) is.event refl is.task refl (ap is_plain (walk-phase s t route u is.how)) (end-thread s t route u e is) (SameSort-itself route) (walk-fits s t route u lawful.phases is.how)
     by_kind (by_confirm l path (is_restart link is)) = plain-event _ _ is.event refl is.at.at.task refl refl (moved (phases.Walk t (Full [])) refl (ap is_plain is.at.at.phased))
@@ -685,7 +714,8 @@ module _ (s : State) (made : ℕ) (t : TaskId) (lawful : IsLawful s made) where
     by_kind (by_wakeup (is_wake u is)) = called (calls.Wake u) (wake_answer (task_part s u)) _ is.at is.event refl refl refl refl
     by_kind (by_wakeup (is_signal u is)) = called (calls.Signal u) (signal_answer (task_part s u)) _ is.at is.event refl refl refl refl
     by_kind (by_setprio u prio is) =
-        walks _ u (Short replies.Done) (Short replies.Done) (Some u) (with_own prio (task_part s u)) is.event refl is.at.task refl (ap is_plain is.at.phased) (setprio-thread s made t u prio e lawful is) (SameSort-itself (Short replies.Done)) (setprio-fits s t u prio is.at)
+        walks _ u (Short replies.Done) (Short replies.Done) (Some u) (with_own prio (task_part s u)) is.event refl is.at.task refl (ap is_plain is.at.phased) (setprio-thread s made t u prio e lawful is)
+        (SameSort-itself (Short replies.Done)) (setprio-fits s t u prio is.at)
 
 pub ReadersLaw-next : (s : State) (made : ℕ) (t : TaskId) (e : Event) → IsLawful s made → IsNext s t e → ReadersLaw (state_after s e)
-ReadersLaw-next s made t e lawful next = by_kind s made t lawful e (OwnersLaw-next s made t e lawful next) next
+ReadersLaw-next s made t e lawful next = by_kind s made t lawful e (OwnersLaw-next s made t e lawful next) (Within-next s made t e lawful next) next

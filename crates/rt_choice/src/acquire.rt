@@ -2,22 +2,23 @@
 ghost use Rattle.std.specs.Prelude.{◌≡◌, Some};
 ghost use Rattle.rt_base.specs.declared.kind.Kind.{Kind};
 ghost use Rattle.rt_model.specs.Rows.{can_take};
-ghost use Rattle.rt_model.specs.events.Acquire.{fast_event, mark_event, is_free, acquire_event, take_event, busy_event, try_event};
+ghost use Rattle.rt_model.specs.events.Acquire.{fast_event, mark_event, is_free, acquire_event};
+ghost use Rattle.rt_model.specs.events.Acquire.{take_event, busy_event, try_event};
 
 use crate::chosen::Chosen;
-use crate::event::{boost_of, on_lock};
-use rt_base::{Kind, LockId, Reply, TaskId};
+use crate::event::{boost_of, got_answer, on_lock};
+use rt_base::{Call, Kind, LockId, Reply, TaskId};
 use rt_locks::LockCell;
 use rt_model::EventKind;
 use rt_tasks::TaskCell;
 
-/// The first event of a call that acquires and doesn't try: it gets a lock with no owner and its bit
-/// clear at once, and else sets the bit.
-pub fn acquire_event(t: TaskId, l: LockId, lock: &LockCell) -> Chosen
-    ensures { result ≡ acquire_event t l lock.now.part }
+/// The first event on an owner part of a call that acquires and doesn't try: it gets one with no owner and
+/// its bit clear at once, and else sets the bit.
+pub fn acquire_event(call: &Call, t: TaskId, l: LockId, lock: &LockCell) -> Chosen
+    ensures { result ≡ acquire_event (Some call.now) t l lock.now.part }
 {
     if is_free(lock) {
-        fast_event(t, l)
+        fast_event(call, t, l)
     } else {
         mark_event(t, l)
     }
@@ -31,11 +32,11 @@ fn is_free(lock: &LockCell) -> bool
 }
 
 // The fast acquire, `rt_mutex_cmpxchg_acquire`.
-fn fast_event(t: TaskId, l: LockId) -> Chosen
-    ensures { result ≡ fast_event t l }
+fn fast_event(call: &Call, t: TaskId, l: LockId) -> Chosen
+    ensures { result ≡ fast_event (Some call.now) t l }
 {
     Chosen {
-        reply: Some(Reply::Got),
+        reply: got_answer(call),
         ..on_lock(t, EventKind::Fast, l)
     }
 }
@@ -56,26 +57,39 @@ pub fn can_take(t: TaskId, kind: Kind, lock: &LockCell, task: &TaskCell) -> bool
 }
 
 /// Takes a lock, `try_to_take_rt_mutex` with success. The event is the same for each kind of lock.
-pub fn take_event(t: TaskId, l: LockId, lock: &LockCell, task: &TaskCell) -> Chosen
-    ensures { (kind : Kind) → result ≡ take_event t l kind lock.now.part task.now }
+pub fn take_event(
+    call: &Call,
+    t: TaskId,
+    l: LockId,
+    lock: &LockCell,
+    task: &TaskCell,
+) -> Chosen
+    ensures { (kind : Kind) → result ≡ take_event (Some call.now) t l kind lock.now.part task.now }
 {
     let after = task.effective_with(l, lock.top_key_without(t));
     Chosen {
         boost: boost_of(t, task.effective(), after),
-        reply: Some(Reply::Got),
+        reply: got_answer(call),
         ..on_lock(t, EventKind::Take, l)
     }
 }
 
-/// The first event of a call that tries: it gets a free lock at once, takes one that it may take, and else
-/// is answered that the lock is busy, `rt_mutex_slowtrylock`.
-pub fn try_event(t: TaskId, l: LockId, kind: Kind, lock: &LockCell, task: &TaskCell) -> Chosen
-    ensures { result ≡ try_event t l kind lock.now.part task.now }
+/// The first event of a call that tries for an owner part: it gets a free lock at once, takes one that it may
+/// take, and else is answered that the lock is busy, `rt_mutex_slowtrylock`.
+pub fn try_event(
+    call: &Call,
+    t: TaskId,
+    l: LockId,
+    kind: Kind,
+    lock: &LockCell,
+    task: &TaskCell,
+) -> Chosen
+    ensures { result ≡ try_event (Some call.now) t l kind lock.now.part task.now }
 {
     if is_free(lock) {
-        fast_event(t, l)
+        fast_event(call, t, l)
     } else if can_take(t, kind, lock, task) {
-        take_event(t, l, lock, task)
+        take_event(call, t, l, lock, task)
     } else {
         busy_event(t, l, lock)
     }

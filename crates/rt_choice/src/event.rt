@@ -2,9 +2,10 @@
 ghost use Rattle.std.specs.Prelude.{◌≡◌, Some};
 ghost use Rattle.rt_model.specs.Choice.{bare, boost_of};
 ghost use Rattle.rt_model.specs.steps.Chain.{is_old};
+ghost use Rattle.rt_model.specs.steps.Thread.{got_answer, released_answer};
 
 use crate::chosen::Chosen;
-use rt_base::{LockId, Prio, TaskId};
+use rt_base::{Call, LockId, Prio, Reply, TaskId};
 use rt_model::EventKind;
 use rt_tasks::TaskCell;
 
@@ -43,6 +44,29 @@ pub fn boost_of(t: TaskId, before: Prio, after: Prio) -> Option<(TaskId, Prio)>
         None
     } else {
         Some((t, after))
+    }
+}
+
+/// The answer of a call that has acquired an owner part: none yet for a reader, which gets in next, and for a
+/// writer, which removes the bias.
+pub fn got_answer(call: &Call) -> Option<Reply>
+    ensures { result ≡ got_answer (Some call.now) }
+{
+    match call {
+        Call::Read(_) | Call::Write(_) | Call::TryWrite(_) => None,
+        _ => Some(Reply::Got),
+    }
+}
+
+/// The answer of a call that ends with the release of an owner part: a reader has got in before that, a
+/// writer that only tried hasn't, and any other call is done.
+pub fn released_answer(call: &Call) -> Reply
+    ensures { result ≡ released_answer (Some call.now) }
+{
+    match call {
+        Call::Read(_) => Reply::Got,
+        Call::TryWrite(_) => Reply::Busy,
+        _ => Reply::Done,
     }
 }
 

@@ -7,6 +7,7 @@ mod confirm;
 mod event;
 mod next;
 mod own;
+mod readers;
 mod release;
 mod wait;
 mod wakeups;

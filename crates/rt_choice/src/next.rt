@@ -11,6 +11,10 @@ ghost use Rattle.rt_choice.specs.Walking.{FindsCursor};
 use crate::acquire::{acquire_event, try_event};
 use crate::chosen::Chosen;
 use crate::own::{own_answer, own_event};
+use crate::readers::{
+    read_event, rin_event, rout_event, tryread_event, unbias_event, waiting_writer_event,
+    wopen_event, writer_event, wwake_event,
+};
 use crate::release::release_event;
 use crate::wait::{queued_event, slow_event};
 use crate::wakeups::{schedule_event, setprio_event, signal_event, state_event, wake_event};
@@ -25,7 +29,8 @@ use rt_parts::{Shared, Thread};
 pub fn next_of(shared: &Shared, t: TaskId, thread: &Thread) -> Option<Chosen>
     requires task { t.0 < length shared.now.tasks }
     requires kinds { length thread.now.kinds ≡ length shared.now.locks }
-    requires served { IfSome (call_of thread.now) (IsServed (length shared.now.tasks) (length shared.now.locks)) }
+    requires served { IfSome (call_of thread.now)
+      (IsServed (length shared.now.tasks) (length shared.now.locks)) }
     requires cursor { FindsCursor shared.now thread.now.phase }
     requires other { IsConfirming thread.now.phase → ⊥ }
     ensures { result ≡ next_of shared.now t thread.now }
@@ -41,9 +46,11 @@ pub fn next_of(shared: &Shared, t: TaskId, thread: &Thread) -> Option<Chosen>
 fn start_event(shared: &Shared, t: TaskId, thread: &Thread, call: &Call) -> Option<Chosen>
     requires task { t.0 < length shared.now.tasks }
     requires kinds { length thread.now.kinds ≡ length shared.now.locks }
+    requires call { call_of thread.now ≡ Some call.now }
     requires known { IsServed MAX_TASKS (length thread.now.kinds) call.now }
     requires served { IsServed (length shared.now.tasks) (length shared.now.locks) call.now }
-    ensures { result ≡ answered_or (first_event shared.now t thread.now call.now) t (called_lock thread.now.cpu call.now) (own_answer thread.now call.now) }
+    ensures { result ≡ answered_or (first_event shared.now t thread.now call.now) t
+      (called_lock thread.now.cpu call.now) (own_answer thread.now call.now) }
 {
     match own_answer(thread, call) {
         Some(answer) => Some(own_event(t, thread.called_lock(call), answer)),
@@ -55,20 +62,26 @@ fn start_event(shared: &Shared, t: TaskId, thread: &Thread, call: &Call) -> Opti
 fn first_event(shared: &Shared, t: TaskId, thread: &Thread, call: &Call) -> Option<Chosen>
     requires task { t.0 < length shared.now.tasks }
     requires kinds { length thread.now.kinds ≡ length shared.now.locks }
+    requires call { call_of thread.now ≡ Some call.now }
     requires served { IsServed (length shared.now.tasks) (length shared.now.locks) call.now }
     ensures { result ≡ first_event shared.now t thread.now call.now }
 {
     match call {
-        Call::Lock(l) | Call::LockInt(l) | Call::Spin(l) => {
-            Some(acquire_event(t, *l, shared.lock(*l)))
+        Call::Lock(l) | Call::LockInt(l) | Call::Spin(l) | Call::Write(l) => {
+            Some(acquire_event(call, t, *l, shared.lock(*l)))
         }
-        Call::TryLock(l) | Call::TrySpin(l) => {
+        Call::TryLock(l) | Call::TrySpin(l) | Call::TryWrite(l) => {
             let kind = thread.kind_of(*l);
-            Some(try_event(t, *l, kind, shared.lock(*l), shared.task(t)))
+            Some(try_event(call, t, *l, kind, shared.lock(*l), shared.task(t)))
         }
         Call::Unlock(l) | Call::Unspin(l) => {
-            Some(release_event(t, *l, shared.lock(*l), shared.task(t)))
+            Some(release_event(call, t, *l, shared.lock(*l), shared.task(t)))
         }
+        Call::Read(l) => Some(read_event(t, *l, shared.readers(*l))),
+        Call::TryRead(l) => Some(tryread_event(t, *l, shared.readers(*l))),
+        Call::Unread(l) => Some(rout_event(t, *l, shared.readers(*l))),
+        Call::Unwrite(l) => Some(wopen_event(t, *l, false)),
+        Call::Downgrade(l) => Some(wopen_event(t, *l, true)),
         Call::State(state) => Some(state_event(t, *state)),
         Call::Schedule => schedule_event(t, shared.task(t)),
         Call::Wake(u) => Some(wake_event(t, *u, shared.task(*u))),
@@ -95,12 +108,20 @@ fn later_event(
     ensures { result ≡ later_event phase.now shared.now t thread.now (called_lock thread.now.cpu call.now) }
 {
     match (phase, thread.called_lock(call)) {
-        (Phase::Slow, Some(l)) => Some(slow_event(shared, t, l, thread.kind_of(l))),
-        (Phase::Wait, Some(l)) => {
-            let kind = thread.kind_of(l);
-            queued_event(shared, t, l, kind, call)
-        }
+        (Phase::Inner, Some(l)) => Some(acquire_event(call, t, l, shared.lock(l))),
+        (Phase::Slow, Some(l)) => Some(slow_event(shared, t, l, thread.kind_of(l), call)),
+        (Phase::Wait, Some(l)) => queued_event(shared, t, l, thread.kind_of(l), call),
         (Phase::Walk(cursor, route), _) => Some(cursor_event(shared, t, route, *cursor)),
+        (Phase::ReadIn, Some(l)) => Some(rin_event(t, l, None)),
+        (Phase::Unbias, Some(l)) => Some(unbias_event(t, l)),
+        (Phase::WTry, Some(l)) => Some(writer_event(call, t, l, shared.readers(l))),
+        (Phase::WWait, Some(l)) => {
+            waiting_writer_event(t, l, shared.readers(l), shared.task(t))
+        }
+        (Phase::Release, Some(l)) => {
+            Some(release_event(call, t, l, shared.lock(l), shared.task(t)))
+        }
+        (Phase::WakeWriter, Some(l)) => Some(wwake_event(t, l, shared.lock(l))),
         _ => None,
     }
 }

@@ -3,7 +3,9 @@ ghost use Rattle.std.specs.Prelude.{◌≡◌, ◌<◌, length, Some, IfSome};
 ghost use Rattle.rt_model.specs.State.{lock_in, task_in, task_at};
 ghost use Rattle.rt_model.specs.Parts.{OwnerPart};
 ghost use Rattle.rt_model.specs.Rows.{top_key};
-ghost use Rattle.rt_model.specs.events.Wait.{owner_boost, wait_event, slow_event, left_event, leave_event, is_interrupted, is_awake, again_event, refused_event, awake_event, queued_event};
+ghost use Rattle.rt_model.specs.events.Wait.{owner_boost, wait_event, slow_event, left_event, leave_event};
+ghost use Rattle.rt_model.specs.events.Wait.{is_interrupted, is_awake, again_event, refused_event};
+ghost use Rattle.rt_model.specs.events.Wait.{awake_event, queued_event};
 
 use crate::acquire::{can_take, take_event};
 use crate::chosen::Chosen;
@@ -15,14 +17,15 @@ use rt_tasks::TaskCell;
 
 /// The event of a call that has set the bit: it takes the lock, of this kind, where it may, and else is
 /// queued.
-pub fn slow_event(shared: &Shared, t: TaskId, l: LockId, kind: Kind) -> Chosen
+pub fn slow_event(shared: &Shared, t: TaskId, l: LockId, kind: Kind, call: &Call) -> Chosen
     requires task { t.0 < length shared.now.tasks }
     requires lock { l.0 < length shared.now.locks }
-    ensures { result ≡ slow_event t l kind (lock_in shared.now l) (task_in shared.now t) (task_at shared.now (lock_in shared.now l).owner) }
+    ensures { result ≡ slow_event (Some call.now) t l kind (lock_in shared.now l) (task_in shared.now t)
+      (task_at shared.now (lock_in shared.now l).owner) }
 {
     let (lock, task) = (shared.lock(l), shared.task(t));
     if can_take(t, kind, lock, task) {
-        take_event(t, l, lock, task)
+        take_event(call, t, l, lock, task)
     } else {
         wait_event(shared, t, l)
     }
@@ -32,7 +35,8 @@ pub fn slow_event(shared: &Shared, t: TaskId, l: LockId, kind: Kind) -> Chosen
 fn wait_event(shared: &Shared, t: TaskId, l: LockId) -> Chosen
     requires task { t.0 < length shared.now.tasks }
     requires lock { l.0 < length shared.now.locks }
-    ensures { result ≡ wait_event t l (lock_in shared.now l) (task_in shared.now t) (task_at shared.now (lock_in shared.now l).owner) }
+    ensures { result ≡ wait_event t l (lock_in shared.now l) (task_in shared.now t)
+      (task_at shared.now (lock_in shared.now l).owner) }
 {
     let lock = shared.lock(l);
     let top = lock.top_key_with(t, shared.task(t).effective());
@@ -52,7 +56,8 @@ fn owner_boost(
     top: Prio,
 ) -> Option<(TaskId, Prio)>
     requires { IfSome owner (λ t. t.0 < length shared.now.tasks) }
-    ensures { (lock : OwnerPart) → Some top ≡ top_key lock.rows → result ≡ owner_boost l lock owner (task_at shared.now owner) }
+    ensures { (lock : OwnerPart) → Some top ≡ top_key lock.rows →
+      result ≡ owner_boost l lock owner (task_at shared.now owner) }
 {
     let t = owner?;
     let task = shared.task(t);
@@ -72,7 +77,8 @@ pub fn left_event(
 ) -> Chosen
     requires lock { l.0 < length shared.now.locks }
     requires owner { IfSome owner (λ o. o.0 < length shared.now.tasks) }
-    ensures { result ≡ left_event t kind (Some l) owner answer (lock_in shared.now l) (task_at shared.now owner) }
+    ensures { result ≡ left_event t kind (Some l) owner answer (lock_in shared.now l)
+      (task_at shared.now owner) }
 {
     let Some(o) = owner else {
         return Chosen {
@@ -96,7 +102,8 @@ pub fn left_event(
 // A signal ends the wait: `remove_waiter`, with the answer `-EINTR` of `rt_mutex_slowlock_block`.
 fn leave_event(shared: &Shared, t: TaskId, l: LockId) -> Chosen
     requires { l.0 < length shared.now.locks }
-    ensures { result ≡ leave_event t l (lock_in shared.now l) (task_at shared.now (lock_in shared.now l).owner) }
+    ensures { result ≡ leave_event t l (lock_in shared.now l)
+      (task_at shared.now (lock_in shared.now l).owner) }
 {
     let owner = shared.lock(l).owner();
     Chosen {
@@ -130,7 +137,8 @@ pub fn queued_event(
 ) -> Option<Chosen>
     requires task { t.0 < length shared.now.tasks }
     requires lock { l.0 < length shared.now.locks }
-    ensures { result ≡ queued_event (Some call.now) t l kind (lock_in shared.now l) (task_in shared.now t) (task_at shared.now (lock_in shared.now l).owner) }
+    ensures { result ≡ queued_event (Some call.now) t l kind (lock_in shared.now l) (task_in shared.now t)
+      (task_at shared.now (lock_in shared.now l).owner) }
 {
     if is_awake(call, shared.task(t)) {
         Some(awake_event(shared, t, l, kind, call))
@@ -143,11 +151,12 @@ pub fn queued_event(
 fn awake_event(shared: &Shared, t: TaskId, l: LockId, kind: Kind, call: &Call) -> Chosen
     requires task { t.0 < length shared.now.tasks }
     requires lock { l.0 < length shared.now.locks }
-    ensures { result ≡ awake_event (Some call.now) t l kind (lock_in shared.now l) (task_in shared.now t) (task_at shared.now (lock_in shared.now l).owner) }
+    ensures { result ≡ awake_event (Some call.now) t l kind (lock_in shared.now l) (task_in shared.now t)
+      (task_at shared.now (lock_in shared.now l).owner) }
 {
     let (lock, task) = (shared.lock(l), shared.task(t));
     if can_take(t, kind, lock, task) {
-        take_event(t, l, lock, task)
+        take_event(call, t, l, lock, task)
     } else {
         refused_event(shared, t, l, call)
     }
@@ -157,7 +166,8 @@ fn awake_event(shared: &Shared, t: TaskId, l: LockId, kind: Kind, call: &Call) -
 fn refused_event(shared: &Shared, t: TaskId, l: LockId, call: &Call) -> Chosen
     requires task { t.0 < length shared.now.tasks }
     requires lock { l.0 < length shared.now.locks }
-    ensures { result ≡ refused_event (Some call.now) t l (lock_in shared.now l) (task_in shared.now t) (task_at shared.now (lock_in shared.now l).owner) }
+    ensures { result ≡ refused_event (Some call.now) t l (lock_in shared.now l) (task_in shared.now t)
+      (task_at shared.now (lock_in shared.now l).owner) }
 {
     if is_interrupted(call, shared.task(t)) {
         leave_event(shared, t, l)

@@ -270,7 +270,7 @@ fn each_kind_has_its_footprint(rt: HostRuntime) {
         (Again, [lock, own].as_slice()),
         (Leave, [lock, own, owner].as_slice()),
         (Give, [lock, own, woken].as_slice()),
-        (WWake, [lock, owner].as_slice()),
+        (WWake, [lock, woken].as_slice()),
         (Busy, [lock].as_slice()),
         (State, [own].as_slice()),
         (Sched, [own].as_slice()),
@@ -286,11 +286,12 @@ fn each_kind_has_its_footprint(rt: HostRuntime) {
         (ROut, [readers].as_slice()),
         (Unbias, [readers].as_slice()),
         (WOpen, [readers].as_slice()),
-        (WTake, [readers, owner].as_slice()),
+        (WTake, [readers, own].as_slice()),
         (WSleep, [readers, own].as_slice()),
     ] {
         touches_these(&rt, &with(Some(C), Some(D), &on(kind, M)), want);
     }
+    touches_these(&rt, &on(WTake, M), [readers].as_slice());
     touches_these(&rt, &on(Busy, M), [first, own].as_slice());
     touches_these(&rt, &valued(1, &on(Busy, M)), [readers].as_slice());
 }

@@ -36,9 +36,13 @@ or_true : (b : Bool) → (b || true) ≡ true
 or_true true = refl
 or_true false = refl
 
--- so it has the owner part of a lock exactly where it holds that, and not for reading
+-- it has the owner part of a lock that it isn't inside exactly where it holds that, and not for reading
+pub apart-owns : (thread : ThreadPart) (l : LockId) → is_inside thread l ≡ false → has_owner_part thread l ≡ (hold_of thread l).owns
+apart-owns thread l is = ap (λ (b : Bool). (hold_of thread l).owns || b) is ∙ or_false (hold_of thread l).owns
+
+-- so in any other phase each lock
 pub outside-owns : (thread : ThreadPart) (l : LockId) → has_inner thread.phase ≡ false → has_owner_part thread l ≡ (hold_of thread l).owns
-outside-owns thread l is = ap (λ (b : Bool). (hold_of thread l).owns || b) (outside thread l is) ∙ or_false (hold_of thread l).owns
+outside-owns thread l is = apart-owns thread l (outside thread l is)
 
 module _ (s : State) (t : TaskId) (l : LockId) (owners : OwnersLaw s) where
   -- a task in another phase owns a lock exactly where it holds it, and not for reading

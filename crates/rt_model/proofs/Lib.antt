@@ -1,6 +1,7 @@
 -- lists, numbers, what a thread's holds count, and the rows of a lock
 pub mod Lists
 pub mod Numbers
+pub mod Counts
 pub mod Holds
 pub mod CellStepLemmas
 pub mod Queues
@@ -15,6 +16,7 @@ pub mod PartsAfter
 pub mod Blocked
 pub mod Calm
 pub mod Reading
+pub mod Looks
 pub mod TaskStates
 -- what an event reads and writes
 pub mod Frame
@@ -46,3 +48,5 @@ pub mod Starts
 pub mod Prefixes
 pub mod Runs
 pub mod Lowest
+-- what each step on a reader part finds
+pub mod ReaderSteps

@@ -239,6 +239,7 @@ module _ (script : Script) where
     count = λ l. ap (λ (cell : ReaderCell). cell.count) (cell-start l) ∙ sym (no_reader l);
     gone = λ l t. each_thread (λ thread. going thread l ≤ (hold_of thread l).reads) t (λ kinds cs cpu. omega arith);
     few = λ l t. each_thread (λ thread. (hold_of thread l).reads ≤ thread.answered) t (λ kinds cs cpu. omega (arith, unread kinds cs cpu l));
+    within = λ t. each_thread (λ thread. thread.answered ≤ length thread.calls) t (λ kinds cs cpu. omega arith);
   }
 
   -- nor sleeps

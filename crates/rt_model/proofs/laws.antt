@@ -3,6 +3,7 @@ pub mod Shape
 pub mod Phases
 pub mod Rows
 pub mod Owners
+pub mod Readers
 pub mod Migration
 pub mod KeptTops
 pub mod Queued

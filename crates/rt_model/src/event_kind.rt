@@ -38,9 +38,9 @@ pub enum EventKind {
     WSleep,
     /// `__rwbase_write_unlock`.
     WOpen,
-    /// The last reader wakes the writer.
+    /// The last reader wakes whoever owns the inner lock, `__rwbase_read_unlock`.
     WWake,
-    /// A call that tries, or a reader, finds the lock taken.
+    /// A call that tries may not take the lock, or a reader finds it shut.
     Busy,
     /// `set_current_state`.
     State,

@@ -1,7 +1,7 @@
 /// The reader part of a reader/writer lock, as the kernel's `rwbase_rt::readers`.
 #[derive(Clone, Copy, Debug, PartialEq, Eq)]
 pub struct ReaderCell {
-    /// No writer is in or on its way.
+    /// No writer is in, nor has one on its way removed the bias.
     pub bias: bool,
     /// A writer is in.
     pub writer: bool,

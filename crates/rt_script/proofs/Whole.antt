@@ -5,7 +5,7 @@ use Rattle.std.proofs.lemmas.Grind.{flat_map-append}
 use Rattle.std.proofs.lemmas.List.{take_more, flat_map_more}
 use Rattle.std.proofs.lemmas.List.Folds.{flat_map-map}
 use Rattle.rt_base.specs.Script.{Script, TaskLine, LockLine, is_first_cell}
-use Rattle.rt_script.specs.Canonical.{cpus_line_text, task_line_text, lock_line_text, call_line_text, pick_line_text, lined_locks, call_line_texts, with_line_feed, canonical}
+use Rattle.rt_script.specs.Canonical.{cpus_line_text, task_line_text, lock_line_text, call_line_text, pick_line_text, lined_locks, call_line_texts, with_line_feed, canonical, calls_text, tasks_part, locks_part, calls_part, picks_part}
 
 if_kept : {X Y : Type 0} (b : Bool) (f : X → List Y) (x : X) (ys : List Y) (xs : List X) → ys ≡ flat_map f xs → cond b (f x) [] ++ ys ≡ flat_map f (cond b (x ∷ xs) xs)
 if_kept true f x ys xs e = ap (λ ys. f x ++ ys) e
@@ -15,26 +15,12 @@ flat_map-filter : {X Y : Type 0} (f : X → List Y) (p : X → Bool) (xs : List 
 flat_map-filter f p [] = refl
 flat_map-filter f p (x ∷ xs) = if_kept (p x) f x (flat_map (λ x. cond (p x) (f x) []) xs) (filter p xs) (flat_map-filter f p xs)
 
--- ---- the parts of the text, each line with its line feed
-
-abbrev tasks_part : List TaskLine → List ℕ
-tasks_part tasks = flat_map (λ (task : TaskLine). with_line_feed (task_line_text task)) tasks
-
-abbrev locks_part : List LockLine → List ℕ
-locks_part locks = flat_map (λ (lock : LockLine). cond (is_first_cell lock.cell) (with_line_feed (lock_line_text lock)) []) locks
-
-abbrev calls_part : Script → List ℕ
-calls_part s = flat_map (λ (task : TaskLine). flat_map (λ call. with_line_feed (call_line_text s task call)) task.calls) s.tasks
-
-abbrev picks_part : Script → List ℕ
-picks_part s = flat_map (λ t. with_line_feed (pick_line_text s t)) s.picks
-
 locks_are : (s : Script) → flat_map with_line_feed (map lock_line_text (lined_locks s)) ≡ locks_part s.locks
 locks_are s =
     flat_map-map with_line_feed lock_line_text (lined_locks s)
     ∙ sym (flat_map-filter (λ (lock : LockLine). with_line_feed (lock_line_text lock)) (λ (lock : LockLine). is_first_cell lock.cell) s.locks)
 
-calls_of : (s : Script) (tasks : List TaskLine) → flat_map with_line_feed (flat_map (call_line_texts s) tasks) ≡ flat_map (λ (task : TaskLine). flat_map (λ call. with_line_feed (call_line_text s task call)) task.calls) tasks
+calls_of : (s : Script) (tasks : List TaskLine) → flat_map with_line_feed (flat_map (call_line_texts s) tasks) ≡ flat_map (calls_text s) tasks
 calls_of s [] = refl
 calls_of s (t ∷ ts) =
     flat_map-append with_line_feed (call_line_texts s t) (flat_map (call_line_texts s) ts) ∙ (λ i. flat_map-map with_line_feed (call_line_text s t) t.calls i ++ calls_of s ts i)

@@ -1,5 +1,5 @@
 -- The text of a script as it is written: one form for each script.
-use Rattle.std.specs.Prelude.{ℕ, List, [], ◌∷◌, ◌++◌, map, filter, flat_map, codes, decimal}
+use Rattle.std.specs.Prelude.{ℕ, List, [], ◌∷◌, ◌++◌, cond, map, filter, flat_map, codes, decimal}
 use Rattle.rt_base.specs.declared.call.Call.{Call}
 use Rattle.rt_base.specs.declared.call.Call.TheVariants as calls
 use Rattle.rt_base.specs.declared.id.LockId.{LockId}
@@ -90,3 +90,41 @@ with_line_feed line = line ++ 10 ∷ []
 -- each line with its line feed
 abbrev pub canonical : Script → List ℕ
 canonical script = flat_map with_line_feed (canonical_lines script)
+
+-- ---- the parts of the text, one after the other as they are written, each line with its line feed
+
+-- the line of a task
+abbrev pub task_text : TaskLine → List ℕ
+task_text task = with_line_feed (task_line_text task)
+
+-- the lines of the tasks
+abbrev pub tasks_part : List TaskLine → List ℕ
+tasks_part tasks = flat_map task_text tasks
+
+-- the line of a lock, if it has one of its own
+abbrev pub lock_text : LockLine → List ℕ
+lock_text lock = cond (is_first_cell lock.cell) (with_line_feed (lock_line_text lock)) []
+
+-- the lines of the locks
+abbrev pub locks_part : List LockLine → List ℕ
+locks_part locks = flat_map lock_text locks
+
+-- the line of a task's call
+abbrev pub call_text : Script → TaskLine → Call → List ℕ
+call_text script task call = with_line_feed (call_line_text script task call)
+
+-- the lines of a task's calls
+abbrev pub calls_text : Script → TaskLine → List ℕ
+calls_text script task = flat_map (call_text script task) task.calls
+
+-- the lines of all calls, task by task
+abbrev pub calls_part : Script → List ℕ
+calls_part script = flat_map (calls_text script) script.tasks
+
+-- the line of a pick
+abbrev pub pick_text : Script → TaskId → List ℕ
+pick_text script t = with_line_feed (pick_line_text script t)
+
+-- the lines of the picks
+abbrev pub picks_part : Script → List ℕ
+picks_part script = flat_map (pick_text script) script.picks

@@ -19,6 +19,10 @@ abbrev pub Gives : {X Y : Type 0} → (X → Y) → Result X LineError → Judge
 Gives view (Ok x) judged = judged ≡ Ok (view x)
 Gives view (Err e) judged = Fails e judged
 
+-- the call left what is judged, or the fault is the one that is judged
+abbrev pub Leaves : {X Y : Type 0} → Y → Result X LineError → Judged Y → Type 0
+Leaves left result judged = Gives (λ _. left) result judged
+
 -- the fault is the one that is judged, in its line; memory may run out anyway
 abbrev pub IsFaultOf : {Y : Type 0} → Result Y FaultAt → ScriptFault → Type 0
 IsFaultOf judged (At line why) = judged ≡ Err (record { line = line; why = why })

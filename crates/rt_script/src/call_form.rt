@@ -1,5 +1,5 @@
 ghost use Rattle.std.specs.Prelude.{◌≡◌, IfSome, option_map};
-ghost use Rattle.rt_script.specs.CallForms.{form_map, IsSettable};
+ghost use Rattle.rt_script.specs.CallForms.{seen_form, IsSettable};
 ghost use Rattle.rt_script.specs.Calls.{call_form};
 
 use crate::pieces::Pieces;
@@ -21,7 +21,7 @@ pub(crate) enum CallForm<W> {
 
 /// The call that the words after a task's name have the form of.
 pub(crate) fn call_form<'a>(mut words: Pieces<'a>) -> Option<CallForm<&'a [u8]>>
-    ensures form { option_map (λ form. form_map (λ word. word.now) form) result ≡ call_form words.entry }
+    ensures form { option_map seen_form result ≡ call_form words.entry }
     ensures settable { IfSome result IsSettable }
 {
     let verb = Verb::read(words.next()?)?;

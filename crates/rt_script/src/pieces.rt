@@ -50,7 +50,8 @@ impl<'a> Pieces<'a> {
 
     /// Takes the next piece, where there is one.
     pub(crate) fn next(&mut self) -> Option<&'a [u8]>
-        ensures { MatchOption result ((self.old ≡ []) × (self.new ≡ [])) (λ piece. self.old ≡ piece.now ∷ self.new) }
+        ensures { MatchOption result ((self.old ≡ []) × (self.new ≡ []))
+            (λ piece. self.old ≡ piece.now ∷ self.new) }
     {
         let text = self.rest.take()?;
         match split_at_byte(text, self.separator) {
@@ -84,7 +85,8 @@ impl<'a> Pieces<'a> {
 
     /// The words that are left, if they are three.
     pub(crate) fn three(mut self) -> Result<(&'a [u8], &'a [u8], &'a [u8]), LineError>
-        ensures { Gives (λ words. (words.0.now, words.1.now, words.2.now)) result (need BadLine (three self.entry)) }
+        ensures { Gives (λ words. (words.0.now, words.1.now, words.2.now)) result
+            (need BadLine (three self.entry)) }
     {
         match (self.next(), self.next(), self.next(), self.next()) {
             (Some(a), Some(b), Some(c), None) => Ok((a, b, c)),
@@ -96,7 +98,8 @@ impl<'a> Pieces<'a> {
 /// The text before the first such byte and the text after it, where there is one.
 fn split_at_byte(text: &[u8], byte: u8) -> Option<(&[u8], &[u8])>
     ensures parts { MatchOption result (slice_split (λ b. b == byte) text.now ≡ text.now ∷ [])
-        (λ parts. slice_split (λ b. b == byte) text.now ≡ parts.0.now ∷ slice_split (λ b. b == byte) parts.1.now) }
+        (λ parts. slice_split (λ b. b == byte) text.now
+        ≡ parts.0.now ∷ slice_split (λ b. b == byte) parts.1.now) }
     ensures shorter { IfSome result (λ parts. length parts.1.now < length text.now) }
 {
     let end = index_of(text, byte)?;

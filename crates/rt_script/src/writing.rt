@@ -1,8 +1,8 @@
 // The text of a script: the lines that it is written as.
-ghost use Rattle.std.specs.Prelude.{◌≡◌, ◌<◌, [], ◌∷◌, ◌++◌, length, cond, Ok, decimal, flat_map, IfOk, OnOk};
-ghost use Rattle.rt_base.specs.Script.{TaskLine, LockLine, task_line, lock_line, is_first_cell, IsScript};
+ghost use Rattle.std.specs.Prelude.{◌≡◌, ◌<◌, [], ◌∷◌, ◌++◌, length, Ok, decimal, IfOk, OnOk};
+ghost use Rattle.rt_base.specs.Script.{task_line, lock_line, is_first_cell, IsScript};
 ghost use Rattle.rt_base.specs.Text.{spaced};
-ghost use Rattle.rt_script.specs.Canonical.{lock_kind_word, call_words, cpus_line_text, task_line_text, lock_line_text, call_line_text, pick_line_text, lined_locks, call_line_texts, with_line_feed, canonical};
+ghost use Rattle.rt_script.specs.Canonical.{lock_kind_word, call_words, cpus_line_text, with_line_feed, canonical, task_text, tasks_part, lock_text, locks_part, call_text, calls_text, calls_part, pick_text, picks_part};
 ghost use Rattle.rt_script.specs.Grammar.{script_of};
 
 use crate::lock::Lock;
@@ -45,7 +45,7 @@ impl Script {
 
     /// Appends the lines of all calls, task by task.
     fn push_calls(&self, out: &mut Vec<u8>) -> Result<(), AllocError>
-        ensures { OnOk result (out.new.items ≡ out.old.items ++ flat_map (λ (task : TaskLine). flat_map (λ call. with_line_feed (call_line_text self.now task call)) task.calls) self.now.tasks) }
+        ensures { OnOk result (out.new.items ≡ out.old.items ++ calls_part self.now) }
     {
         for task in self.task_lines() {
             self.push_calls_of(task, out)?;
@@ -55,7 +55,7 @@ impl Script {
 
     /// Appends the lines of a task's calls.
     fn push_calls_of(&self, task: &Task, out: &mut Vec<u8>) -> Result<(), AllocError>
-        ensures { OnOk result (out.new.items ≡ out.old.items ++ flat_map (λ call. with_line_feed (call_line_text self.now task.now call)) task.now.calls) }
+        ensures { OnOk result (out.new.items ≡ out.old.items ++ calls_text self.now task.now) }
     {
         for call in &task.calls {
             self.push_call_line(task, call, out)?;
@@ -65,7 +65,7 @@ impl Script {
 
     /// Appends the line of a call.
     fn push_call_line(&self, task: &Task, call: &Call, out: &mut Vec<u8>) -> Result<(), AllocError>
-        ensures { OnOk result (out.new.items ≡ out.old.items ++ with_line_feed (call_line_text self.now task.now call.now)) }
+        ensures { OnOk result (out.new.items ≡ out.old.items ++ call_text self.now task.now call.now) }
     {
         out.extend_from_slice(b"call")?;
         push_word(task.name.as_str(), out)?;
@@ -112,7 +112,7 @@ impl Script {
 
     /// Appends the lines of the picks.
     fn push_picks(&self, out: &mut Vec<u8>) -> Result<(), AllocError>
-        ensures { OnOk result (out.new.items ≡ out.old.items ++ flat_map (λ t. with_line_feed (pick_line_text self.now t)) self.now.picks) }
+        ensures { OnOk result (out.new.items ≡ out.old.items ++ picks_part self.now) }
     {
         for t in self.picks() {
             self.push_pick_line(*t, out)?;
@@ -122,7 +122,7 @@ impl Script {
 
     /// Appends the line of a pick.
     fn push_pick_line(&self, t: TaskId, out: &mut Vec<u8>) -> Result<(), AllocError>
-        ensures { OnOk result (out.new.items ≡ out.old.items ++ with_line_feed (pick_line_text self.now t)) }
+        ensures { OnOk result (out.new.items ≡ out.old.items ++ pick_text self.now t) }
     {
         out.extend_from_slice(b"pick")?;
         push_word(self.name_of_task(t), out)?;
@@ -165,7 +165,7 @@ fn push_cpus_line(cpus: u8, out: &mut Vec<u8>) -> Result<(), AllocError>
 
 /// Appends the lines of tasks.
 fn push_tasks(tasks: &[Task], out: &mut Vec<u8>) -> Result<(), AllocError>
-    ensures { OnOk result (out.new.items ≡ out.old.items ++ flat_map (λ (task : TaskLine). with_line_feed (task_line_text task)) tasks.now) }
+    ensures { OnOk result (out.new.items ≡ out.old.items ++ tasks_part tasks.now) }
 {
     for task in tasks {
         push_task_line(task, out)?;
@@ -175,7 +175,7 @@ fn push_tasks(tasks: &[Task], out: &mut Vec<u8>) -> Result<(), AllocError>
 
 /// Appends the line of a task.
 fn push_task_line(task: &Task, out: &mut Vec<u8>) -> Result<(), AllocError>
-    ensures { OnOk result (out.new.items ≡ out.old.items ++ with_line_feed (task_line_text task.now)) }
+    ensures { OnOk result (out.new.items ≡ out.old.items ++ task_text task.now) }
 {
     out.extend_from_slice(b"task")?;
     push_word(task.name.as_str(), out)?;
@@ -187,7 +187,7 @@ fn push_task_line(task: &Task, out: &mut Vec<u8>) -> Result<(), AllocError>
 
 /// Appends the lines of locks.
 fn push_locks(locks: &[Lock], out: &mut Vec<u8>) -> Result<(), AllocError>
-    ensures { OnOk result (out.new.items ≡ out.old.items ++ flat_map (λ (lock : LockLine). cond (is_first_cell lock.cell) (with_line_feed (lock_line_text lock)) []) locks.now) }
+    ensures { OnOk result (out.new.items ≡ out.old.items ++ locks_part locks.now) }
 {
     for lock in locks {
         push_lock_line(lock, out)?;
@@ -197,7 +197,7 @@ fn push_locks(locks: &[Lock], out: &mut Vec<u8>) -> Result<(), AllocError>
 
 /// Appends the line of a lock, if it has one of its own.
 fn push_lock_line(lock: &Lock, out: &mut Vec<u8>) -> Result<(), AllocError>
-    ensures { OnOk result (out.new.items ≡ out.old.items ++ cond (is_first_cell lock.now.cell) (with_line_feed (lock_line_text lock.now)) []) }
+    ensures { OnOk result (out.new.items ≡ out.old.items ++ lock_text lock.now) }
 {
     if !has_line(lock) {
         return Ok(());

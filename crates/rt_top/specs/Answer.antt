@@ -25,11 +25,20 @@ pub record Output : Type 0 where
   pub faults_before : ℕ
   pub faults_after : ℕ
 
+-- that between two states of a sink, by what it holds and how often it has failed
+abbrev pub output_of : {K : Type 0} → (K → Option (List ℕ)) → (K → ℕ) → K → K → Output
+output_of held faults before after =
+    record { held_before = held before; held_after = held after; faults_before = faults before; faults_after = faults after }
+
 -- the source of a call: what is left of it afterwards, and how often it had failed
 pub record Input : Type 0 where
   pub left : Option (List ℕ)
   pub faults_before : ℕ
   pub faults_after : ℕ
+
+-- that between two states of a source, by what is left of it and how often it has failed
+abbrev pub input_of : {S : Type 0} → (S → Option (List ℕ)) → (S → ℕ) → S → S → Input
+input_of left faults before after = record { left = left after; faults_before = faults before; faults_after = faults after }
 
 -- the line was written without a fault, or, where the sink failed, some prefix of it
 abbrev pub IsTold : List ℕ → Output → Type 0

@@ -31,6 +31,10 @@ fault_number TooMany = 9
 fault_number NoGo = 10
 fault_number AfterGo = 11
 
+-- a fault: its line, and what is wrong with it
+abbrev pub fault_at : ℕ → Why → FaultAt
+fault_at line why = record { line = line; why = why }
+
 -- a line of the script is at fault
 abbrev pub bad_script_line : FaultAt → List ℕ
 bad_script_line fault = codes "bad script: line " ++ decimal fault.line ++ codes ", fault " ++ decimal (fault_number fault.why) ++ 10 ∷ []

@@ -1,5 +1,5 @@
 -- Events made and told.
-use Rattle.std.specs.Prelude.{◌≡◌, ℕ, ◌+◌, List, [], ◌++◌, Option, Some, None, length}
+use Rattle.std.specs.Prelude.{◌≡◌, ℕ, ◌+◌, ◌<◌, List, [], ◌++◌, Option, Some, None, IfSome, length}
 use Rattle.rt_base.specs.Outside.{AppendsPrefix}
 use Rattle.rt_base.specs.Script.{Script}
 use Rattle.rt_base.specs.declared.id.TaskId.{TaskId}
@@ -16,6 +16,10 @@ use Rattle.rt_top.specs.Printing.{HandsOn}
 -- some first part of these events was made, and counted
 abbrev pub IsPartMade : Made → Made → List Event → Type 0
 IsPartMade old new events = (first : List Event) × (rest : List Event) × (first ++ rest ≡ events) × (new.state ≡ after old.state first) × (new.made ≡ old.made + length first)
+
+-- who moved last, if anybody did, is a task of the script
+abbrev pub IsLastOf : Script → Option TaskId → Type 0
+IsLastOf script last = IfSome last (λ t. t.0 < length script.tasks)
 
 -- one event more, of task t
 abbrev pub with_move : Progress → TaskId → Progress

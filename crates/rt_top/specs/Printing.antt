@@ -16,3 +16,8 @@ pub record Prints {T : Type 0} (result : Result T Failed) (held_before : Option 
   pub part : OnErr result (AppendsPrefix held_before (gathered_before ++ text) held_after)
   pub cause : OnErr result (Rises faults_before faults_after)
   pub count : faults_before ≤ faults_after
+
+-- the same between two states of a sink, by what it holds and how often it has failed, and of what is gathered
+abbrev pub PrintsTo : {T K : Type 0} → (K → Option (List ℕ)) → (K → ℕ) → Result T Failed → K → List ℕ → K → List ℕ → List ℕ → Type 0
+PrintsTo held faults result before gathered_before after gathered_after text =
+    Prints result (held before) gathered_before (held after) gathered_after (faults before) (faults after) text

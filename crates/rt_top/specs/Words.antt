@@ -1,8 +1,12 @@
 -- The words after the program's name, and what they ask for.
-use Rattle.std.specs.Prelude.{◌≡◌, ℕ, true, ◌&&◌, not, List, [], ◌∷◌, Option, Some, None, is_some, bytes_eq, codes}
+use Rattle.std.specs.Prelude.{◌≡◌, ℕ, true, ◌&&◌, not, List, [], ◌∷◌, map, String, string_bytes, Option, Some, None, is_some, bytes_eq, codes}
 use Rattle.rt_script.specs.Words.{◌>>=◌, only_if, number_upto}
 use Rattle.rt_top.specs.declared.options.Options.{Options}
 use Rattle.rt_top.specs.declared.options.TheConstants.{MAX_TURNS}
+
+-- the bytes of each word
+abbrev pub bytes_of : {A : Type 0} → List (String A) → List (List ℕ)
+bytes_of words = map (λ word. string_bytes word) words
 
 -- no option is given
 abbrev pub no_options : Options

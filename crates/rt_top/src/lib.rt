@@ -2,8 +2,6 @@
 #![tactic(auto)]
 
 #[cfg(test)]
-mod deadlock_tests;
-#[cfg(test)]
 mod fault_tests;
 mod message;
 mod options;
@@ -17,22 +15,10 @@ mod replaying;
 mod reporting;
 #[cfg(test)]
 mod row_tests;
-#[cfg(test)]
-mod signal_tests;
-#[cfg(test)]
-mod sleep_tests;
-#[cfg(test)]
-mod spin_tests;
 mod status;
 #[cfg(test)]
 mod test_replays;
 mod top;
-#[cfg(test)]
-mod waiter_tests;
-#[cfg(test)]
-mod wakeup_tests;
-#[cfg(test)]
-mod walk_tests;
 mod words;
 #[cfg(test)]
 mod words_tests;

@@ -1,7 +1,7 @@
 // The lines that tell why nothing was played.
 ghost use Rattle.std.specs.Prelude.{◌≡◌, ◌≤◌, IfOk, string_bytes};
-ghost use Rattle.rt_top.specs.Answer.{IsTold};
-ghost use Rattle.rt_top.specs.Message.{bad_script_line, fault_number, read_fault_line, too_long_line, usage_line};
+ghost use Rattle.rt_top.specs.Answer.{IsTold, output_of};
+ghost use Rattle.rt_top.specs.Message.{bad_script_line, fault_at, fault_number, read_fault_line, too_long_line, usage_line};
 
 use rt_base::{Sink, write_whole};
 use rt_script::Why;
@@ -28,7 +28,7 @@ fn fault_number(why: Why) -> u8
 
 /// The line that tells which line of a script is at fault, numbered from 1, and why.
 pub fn bad_script(alloc: Global, line: u32, why: Why) -> Result<String, AllocError>
-    ensures { IfOk result (λ text. string_bytes text ≡ bad_script_line (record { line = line; why = why })) }
+    ensures { IfOk result (λ text. string_bytes text ≡ bad_script_line (fault_at line why)) }
 {
     let number = fault_number(why);
     format!(in alloc; "bad script: line {line}, fault {number}\n")
@@ -36,7 +36,7 @@ pub fn bad_script(alloc: Global, line: u32, why: Why) -> Result<String, AllocErr
 
 /// Writes a line. Where the sink fails, some prefix of it was written.
 pub fn tell<K: Sink>(line: &[u8], out: &mut K)
-    ensures told { IsTold line.now (record { held_before = K.held out.old; held_after = K.held out.new; faults_before = K.faults out.old; faults_after = K.faults out.new }) }
+    ensures told { IsTold line.now (output_of K.held K.faults out.old out.new) }
     ensures count { K.faults out.old ≤ K.faults out.new }
 {
     let _ = write_whole(out, line);
@@ -44,7 +44,7 @@ pub fn tell<K: Sink>(line: &[u8], out: &mut K)
 
 /// Writes which words are taken.
 pub fn tell_usage<K: Sink>(out: &mut K)
-    ensures told { IsTold usage_line (record { held_before = K.held out.old; held_after = K.held out.new; faults_before = K.faults out.old; faults_after = K.faults out.new }) }
+    ensures told { IsTold usage_line (output_of K.held K.faults out.old out.new) }
     ensures count { K.faults out.old ≤ K.faults out.new }
 {
     tell(
@@ -55,7 +55,7 @@ pub fn tell_usage<K: Sink>(out: &mut K)
 
 /// Writes that the source failed.
 pub fn tell_read_fault<K: Sink>(out: &mut K)
-    ensures told { IsTold read_fault_line (record { held_before = K.held out.old; held_after = K.held out.new; faults_before = K.faults out.old; faults_after = K.faults out.new }) }
+    ensures told { IsTold read_fault_line (output_of K.held K.faults out.old out.new) }
     ensures count { K.faults out.old ≤ K.faults out.new }
 {
     tell(b"read fault\n", out);
@@ -63,7 +63,7 @@ pub fn tell_read_fault<K: Sink>(out: &mut K)
 
 /// Writes that the input is too long.
 pub fn tell_too_long<K: Sink>(out: &mut K)
-    ensures told { IsTold too_long_line (record { held_before = K.held out.old; held_after = K.held out.new; faults_before = K.faults out.old; faults_after = K.faults out.new }) }
+    ensures told { IsTold too_long_line (output_of K.held K.faults out.old out.new) }
     ensures count { K.faults out.old ≤ K.faults out.new }
 {
     tell(b"too long\n", out);

@@ -1,6 +1,6 @@
-ghost use Rattle.std.specs.Prelude.{◌≡◌, map, string_bytes, codes, Some, IfOk, IfErr};
+ghost use Rattle.std.specs.Prelude.{◌≡◌, codes, Some, IfOk, IfErr};
 ghost use Rattle.clap.specs.Words.{found_of, kind_of, one_text};
-ghost use Rattle.rt_top.specs.Words.{IsAccepted, IsTurns, options_of};
+ghost use Rattle.rt_top.specs.Words.{IsAccepted, IsTurns, bytes_of, options_of};
 
 use clap::error::ErrorKind;
 use clap::{Arg, ArgMatches, Command, Error};
@@ -19,8 +19,9 @@ pub struct Options {
 
 // The words as `clap` reads them.
 fn matches<'a>(alloc: Global, words: &'a [String]) -> Result<ArgMatches<'a>, Error>
-    requires { IsAccepted (map (λ word. string_bytes word) words.now) }
-    ensures turns { IfOk result (λ found. IsTurns (one_text (found_of found) (codes "turns")) (options_of (map (λ word. string_bytes word) words.now))) }
+    requires { IsAccepted (bytes_of words.now) }
+    ensures turns { IfOk result (λ found.
+        IsTurns (one_text (found_of found) (codes "turns")) (options_of (bytes_of words.now))) }
     ensures err { IfErr result (λ e. kind_of e ≡ ErrorKind.OutOfMemory) }
 {
     let command = Arg::new(alloc, "command").required(true);
@@ -38,8 +39,8 @@ fn matches<'a>(alloc: Global, words: &'a [String]) -> Result<ArgMatches<'a>, Err
 
 /// What the words ask for, read by `clap`.
 pub fn options_in(alloc: Global, words: &[String]) -> Result<Options, NoMemory>
-    requires { IsAccepted (map (λ word. string_bytes word) words.now) }
-    ensures { IfOk result (λ options. options_of (map (λ word. string_bytes word) words.now) ≡ Some options) }
+    requires { IsAccepted (bytes_of words.now) }
+    ensures { IfOk result (λ options. options_of (bytes_of words.now) ≡ Some options) }
 {
     match matches(alloc, words) {
         Ok(found) => Ok(Options {

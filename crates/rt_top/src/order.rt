@@ -29,14 +29,16 @@ pub fn next_chosen(core: &Core, last: Option<TaskId>) -> Option<Event>
     ensures chosen { IfSome result (λ e. chosen_task core.now.state last ≡ Some e.task) }
     ensures event { IfSome result (λ e. next_event core.now.state e.task ≡ Some e) }
     ensures none { result ≡ None → chosen_task core.now.state last ≡ None }
-    ensures told { IfSome result (λ e. (script : Script) (number : ℕ) → IsOf script core.now.state → number < 2 ^ 64 → IsWellFormed script (entry number e)) }
+    ensures told { IfSome result (λ e. (script : Script) (number : ℕ)
+        → IsOf script core.now.state → number < 2 ^ 64 → IsWellFormed script (entry number e)) }
 {
     core.next(pick_next(core, last)?)
 }
 
 // The lowest task whose chain walk is unfinished; else the lowest one.
 fn lowest_walking_or_enabled(core: &Core) -> Option<TaskId>
-    ensures { result ≡ or_else (lowest (is_walking core.now.state) (length core.now.state.threads)) (lowest (is_enabled core.now.state) (length core.now.state.threads)) }
+    ensures { result ≡ or_else (lowest (is_walking core.now.state) (length core.now.state.threads))
+        (lowest (is_enabled core.now.state) (length core.now.state.threads)) }
 {
     match core.lowest_walking() {
         Some(t) => Some(t),

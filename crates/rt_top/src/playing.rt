@@ -1,18 +1,18 @@
 // A run made and told: the picks, and the stated choice.
-ghost use Rattle.std.specs.Prelude.{◌≡◌, ◌↔◌, ◌+◌, ◌^◌, ◌<◌, ◌≤◌, [], length, vec_len, vec_capacity, IfOk, IfSome, OnOk, OnErr, Some, None};
+ghost use Rattle.std.specs.Prelude.{◌≡◌, ◌+◌, ◌^◌, ◌<◌, ◌≤◌, [], length, vec_capacity, IfOk, OnOk, OnErr, Some};
 ghost use Rattle.rt_base.specs.Outside.{Rises, Writes};
 ghost use Rattle.rt_model.specs.laws.Shape.{IsOf};
 ghost use Rattle.rt_model.specs.NextEvent.{next_event};
 ghost use Rattle.rt_model.specs.StateAfter.{state_after};
-ghost use Rattle.rt_model.specs.Order.{picked, chosen};
+ghost use Rattle.rt_model.specs.Order.{chosen};
 ghost use Rattle.rt_model.specs.Run.{ended_of};
 ghost use Rattle.rt_events.specs.Entry.{entry};
 ghost use Rattle.rt_events.specs.Line.{line_of};
 ghost use Rattle.rt_events.specs.WellFormed.{IsWellFormed};
 ghost use Rattle.rt_events.specs.Journal.{lines_of};
-ghost use Rattle.rt_top.specs.Printing.{Prints};
-ghost use Rattle.rt_top.specs.Playing.{IsPartMade, Moves, Stops};
-ghost use Rattle.rt_top.specs.Turns.{IsCutShort};
+ghost use Rattle.rt_top.specs.Printing.{PrintsTo};
+ghost use Rattle.rt_top.specs.Playing.{IsLastOf, IsPartMade, Moves, Stops};
+ghost use Rattle.rt_top.specs.Turns.{TellsLimit, by_picks};
 
 use crate::order::next_chosen;
 use crate::printing::{flush, flush_if_full};
@@ -38,7 +38,8 @@ fn make_event<K: Sink>(
     requires entry { IsWellFormed script.now (entry number e.now) }
     requires made { core.old.made < 2 ^ 62 }
     requires room { LINE_LIMIT ≤ vec_capacity buf.old }
-    ensures prints { Prints result (K.held out.old) buf.old.items (K.held out.new) buf.new.items (K.faults out.old) (K.faults out.new) (line_of script.now (entry number e.now)) }
+    ensures prints { PrintsTo K.held K.faults result out.old buf.old.items out.new buf.new.items
+        (line_of script.now (entry number e.now)) }
     ensures state { OnOk result (core.new.state ≡ state_after core.old.state e.now) }
     ensures made { OnOk result (core.new.made ≡ core.old.made + 1) }
     ensures script { IsOf script.now core.new.state }
@@ -68,12 +69,15 @@ fn play_event<K: Sink>(
     requires made { core.old.made < 2 ^ 62 }
     requires number { first + so_far.count < 2 ^ 63 }
     requires room { LINE_LIMIT ≤ vec_capacity buf.old }
-    ensures moves { IfOk result (λ now. Moves script.now first e.now.task (Some e.now) core.old.state core.new.state so_far now (K.held out.old) buf.old.items (K.held out.new) buf.new.items) }
+    ensures moves { IfOk result (λ now.
+        Moves script.now first e.now.task (Some e.now) core.old.state core.new.state so_far now
+        (K.held out.old) buf.old.items (K.held out.new) buf.new.items) }
     ensures made { IfOk result (λ now. core.new.made + so_far.count ≡ core.old.made + now.count) }
     ensures few { IfOk result (λ now. now.count ≤ so_far.count + 1) }
-    ensures within { IfOk result (λ now. IfSome so_far.last (λ u. u.0 < length script.now.tasks) → IfSome now.last (λ u. u.0 < length script.now.tasks)) }
+    ensures within { IfOk result (λ now. IsLastOf script.now so_far.last → IsLastOf script.now now.last) }
     ensures no_fault { OnOk result (K.faults out.new ≡ K.faults out.old) }
-    ensures stops { OnErr result (Stops script.now first (Some e.now) core.old.state core.new.state so_far (K.held out.old) buf.old.items (K.held out.new)) }
+    ensures stops { OnErr result (Stops script.now first (Some e.now)
+        core.old.state core.new.state so_far (K.held out.old) buf.old.items (K.held out.new)) }
     ensures err { OnErr result (core.new ≡ core.old) }
     ensures cause { OnErr result (Rises (K.faults out.old) (K.faults out.new)) }
     ensures count { K.faults out.old ≤ K.faults out.new }
@@ -102,12 +106,15 @@ fn play<K: Sink>(
     requires made { core.old.made < 2 ^ 62 }
     requires number { first + so_far.count < 2 ^ 63 }
     requires room { LINE_LIMIT ≤ vec_capacity buf.old }
-    ensures moves { IfOk result (λ now. Moves script.now first t (next_event core.old.state t) core.old.state core.new.state so_far now (K.held out.old) buf.old.items (K.held out.new) buf.new.items) }
+    ensures moves { IfOk result (λ now.
+        Moves script.now first t (next_event core.old.state t) core.old.state core.new.state so_far now
+        (K.held out.old) buf.old.items (K.held out.new) buf.new.items) }
     ensures made { IfOk result (λ now. core.new.made + so_far.count ≡ core.old.made + now.count) }
     ensures few { IfOk result (λ now. now.count ≤ so_far.count + 1) }
-    ensures within { IfOk result (λ now. IfSome so_far.last (λ u. u.0 < length script.now.tasks) → IfSome now.last (λ u. u.0 < length script.now.tasks)) }
+    ensures within { IfOk result (λ now. IsLastOf script.now so_far.last → IsLastOf script.now now.last) }
     ensures no_fault { OnOk result (K.faults out.new ≡ K.faults out.old) }
-    ensures stops { OnErr result (Stops script.now first (next_event core.old.state t) core.old.state core.new.state so_far (K.held out.old) buf.old.items (K.held out.new)) }
+    ensures stops { OnErr result (Stops script.now first (next_event core.old.state t)
+        core.old.state core.new.state so_far (K.held out.old) buf.old.items (K.held out.new)) }
     ensures err { OnErr result (core.new ≡ core.old) }
     ensures cause { OnErr result (Rises (K.faults out.old) (K.faults out.new)) }
     ensures count { K.faults out.old ≤ K.faults out.new }
@@ -131,15 +138,15 @@ fn play_picks<K: Sink>(
     requires script { IsOf script.now core.old.state }
     requires made { core.old.made < 2 ^ 61 }
     requires room { LINE_LIMIT ≤ vec_capacity buf.old }
-    ensures prints { Prints result (K.held out.old) buf.old.items (K.held out.new) buf.new.items (K.faults out.old) (K.faults out.new)
-        (lines_of script.now (core.old.made + 1) (picked script.now.picks core.old.state None).events) }
-    ensures state { OnOk result (core.new.state ≡ (picked script.now.picks core.old.state None).state) }
+    ensures prints { PrintsTo K.held K.faults result out.old buf.old.items out.new buf.new.items
+        (lines_of script.now (core.old.made + 1) (by_picks script.now core.old.state).events) }
+    ensures state { OnOk result (core.new.state ≡ (by_picks script.now core.old.state).state) }
     ensures made { IfOk result (λ now. core.new.made ≡ core.old.made + now.count) }
-    ensures count { IfOk result (λ now. now.count ≡ length (picked script.now.picks core.old.state None).events) }
+    ensures count { IfOk result (λ now. now.count ≡ length (by_picks script.now core.old.state).events) }
     ensures few { IfOk result (λ now. now.count ≤ length script.now.picks) }
-    ensures last { IfOk result (λ now. now.last ≡ (picked script.now.picks core.old.state None).last) }
-    ensures within { IfOk result (λ now. IfSome now.last (λ t. t.0 < length script.now.tasks)) }
-    ensures part { OnErr result (IsPartMade core.old core.new (picked script.now.picks core.old.state None).events) }
+    ensures last { IfOk result (λ now. now.last ≡ (by_picks script.now core.old.state).last) }
+    ensures within { IfOk result (λ now. IsLastOf script.now now.last) }
+    ensures part { OnErr result (IsPartMade core.old core.new (by_picks script.now core.old.state).events) }
     ensures script { IsOf script.now core.new.state }
     ensures capacity { vec_capacity buf.old ≤ vec_capacity buf.new }
 {
@@ -168,14 +175,14 @@ pub fn run_picks<K: Sink>(
     requires empty { buf.old.items ≡ [] }
     requires room { LINE_LIMIT ≤ vec_capacity buf.old }
     ensures writes { Writes result (K.held out.old) (K.held out.new) (K.faults out.old) (K.faults out.new)
-        (lines_of script.now (core.old.made + 1) (picked script.now.picks core.old.state None).events) }
-    ensures state { OnOk result (core.new.state ≡ (picked script.now.picks core.old.state None).state) }
+        (lines_of script.now (core.old.made + 1) (by_picks script.now core.old.state).events) }
+    ensures state { OnOk result (core.new.state ≡ (by_picks script.now core.old.state).state) }
     ensures made { IfOk result (λ played. core.new.made ≡ core.old.made + played.0) }
-    ensures count { IfOk result (λ played. played.0 ≡ length (picked script.now.picks core.old.state None).events) }
+    ensures count { IfOk result (λ played. played.0 ≡ length (by_picks script.now core.old.state).events) }
     ensures few { IfOk result (λ played. played.0 ≤ length script.now.picks) }
-    ensures last { IfOk result (λ played. played.1 ≡ (picked script.now.picks core.old.state None).last) }
-    ensures within { IfOk result (λ played. IfSome played.1 (λ t. t.0 < length script.now.tasks)) }
-    ensures part { OnErr result (IsPartMade core.old core.new (picked script.now.picks core.old.state None).events) }
+    ensures last { IfOk result (λ played. played.1 ≡ (by_picks script.now core.old.state).last) }
+    ensures within { IfOk result (λ played. IsLastOf script.now played.1) }
+    ensures part { OnErr result (IsPartMade core.old core.new (by_picks script.now core.old.state).events) }
     ensures script { IsOf script.now core.new.state }
     ensures buf { OnOk result (buf.new.items ≡ []) }
     ensures capacity { vec_capacity buf.old ≤ vec_capacity buf.new }
@@ -196,11 +203,11 @@ fn play_chosen<K: Sink>(
     out: &mut K,
 ) -> Result<Progress, Failed>
     requires script { IsOf script.now core.old.state }
-    requires last { IfSome last (λ t. t.0 < length script.now.tasks) }
+    requires last { IsLastOf script.now last }
     requires made { core.old.made + turns < 2 ^ 62 }
     requires number { first + turns < 2 ^ 62 }
     requires room { LINE_LIMIT ≤ vec_capacity buf.old }
-    ensures prints { Prints result (K.held out.old) buf.old.items (K.held out.new) buf.new.items (K.faults out.old) (K.faults out.new)
+    ensures prints { PrintsTo K.held K.faults result out.old buf.old.items out.new buf.new.items
         (lines_of script.now first (chosen turns core.old.state last).events) }
     ensures state { OnOk result (core.new.state ≡ (chosen turns core.old.state last).state) }
     ensures made { IfOk result (λ now. core.new.made ≡ core.old.made + now.count) }
@@ -232,7 +239,7 @@ pub fn finish<K: Sink>(
     out: &mut K,
 ) -> Result<Ended, Failed>
     requires script { IsOf script.now core.old.state }
-    requires last { IfSome last (λ t. t.0 < length script.now.tasks) }
+    requires last { IsLastOf script.now last }
     requires made { core.old.made + turns < 2 ^ 62 }
     requires number { first + turns < 2 ^ 62 }
     requires empty { buf.old.items ≡ [] }
@@ -240,9 +247,10 @@ pub fn finish<K: Sink>(
     ensures writes { Writes result (K.held out.old) (K.held out.new) (K.faults out.old) (K.faults out.new)
         (lines_of script.now first (chosen turns core.old.state last).events) }
     ensures state { OnOk result (core.new.state ≡ (chosen turns core.old.state last).state) }
-    ensures made { OnOk result (core.new.made ≡ core.old.made + length (chosen turns core.old.state last).events) }
+    ensures made { OnOk result
+        (core.new.made ≡ core.old.made + length (chosen turns core.old.state last).events) }
     ensures ended { IfOk result (λ ended. ended ≡ ended_of core.new.state) }
-    ensures limit { IfOk result (λ ended. (ended ≡ Ended.Limit) ↔ IsCutShort turns (chosen turns core.old.state last)) }
+    ensures limit { IfOk result (TellsLimit turns (chosen turns core.old.state last)) }
     ensures part { OnErr result (IsPartMade core.old core.new (chosen turns core.old.state last).events) }
     ensures script { IsOf script.now core.new.state }
     ensures buf { OnOk result (buf.new.items ≡ []) }

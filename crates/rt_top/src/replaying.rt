@@ -1,5 +1,5 @@
 // A script replayed: from its bytes to the text of its run.
-ghost use Rattle.std.specs.Prelude.{◌≡◌, ◌↔◌, ◌+◌, ◌<◌, ◌≤◌, [], ◌++◌, length, vec_capacity, IfOk, OnOk, None};
+ghost use Rattle.std.specs.Prelude.{◌≡◌, ◌≤◌, [], ◌++◌, vec_capacity, IfOk, OnOk};
 ghost use Rattle.rt_base.specs.Outside.{Writes};
 ghost use Rattle.rt_base.specs.Script.{IsScript};
 ghost use Rattle.rt_model.specs.laws.Shape.{IsOf};
@@ -8,7 +8,7 @@ ghost use Rattle.rt_model.specs.Run.{after, ended_of};
 ghost use Rattle.rt_model.specs.Order.{replayed};
 ghost use Rattle.rt_events.specs.Journal.{header, lines_of};
 ghost use Rattle.rt_core.specs.Text.{replay_text};
-ghost use Rattle.rt_top.specs.Turns.{IsCutShort, after_picks};
+ghost use Rattle.rt_top.specs.Turns.{TellsLimit, after_picks};
 
 use crate::options::MAX_TURNS;
 use crate::playing::{finish, run_picks};
@@ -24,7 +24,8 @@ use rt_script::Script;
 fn print_header<K: Sink>(buf: &mut Vec<u8>, out: &mut K) -> Result<(), Failed>
     requires empty { buf.old.items ≡ [] }
     requires room { LINE_LIMIT ≤ vec_capacity buf.old }
-    ensures writes { Writes result (K.held out.old) (K.held out.new) (K.faults out.old) (K.faults out.new) header }
+    ensures writes { Writes result (K.held out.old) (K.held out.new) (K.faults out.old) (K.faults out.new)
+        header }
     ensures buf { OnOk result (buf.new.items ≡ []) }
     ensures capacity { vec_capacity buf.old ≤ vec_capacity buf.new }
 {
@@ -50,7 +51,7 @@ fn print_journal<K: Sink>(
         (header ++ lines_of script.now 1 (replayed script.now turns).events) }
     ensures state { OnOk result (core.new.state ≡ (replayed script.now turns).state) }
     ensures ended { IfOk result (λ ended. ended ≡ ended_of core.new.state) }
-    ensures limit { IfOk result (λ ended. (ended ≡ Ended.Limit) ↔ IsCutShort turns (after_picks script.now turns)) }
+    ensures limit { IfOk result (TellsLimit turns (after_picks script.now turns)) }
     ensures script { IsOf script.now core.new.state }
     ensures buf { OnOk result (buf.new.items ≡ []) }
     ensures capacity { vec_capacity buf.old ≤ vec_capacity buf.new }
@@ -77,8 +78,9 @@ pub fn print_replay<K: Sink>(
     requires room { LINE_LIMIT ≤ vec_capacity buf.old }
     ensures writes { Writes result (K.held out.old) (K.held out.new) (K.faults out.old) (K.faults out.new)
         (replay_text script.now turns) }
-    ensures ended { IfOk result (λ ended. ended_of (after (start script.now) (replayed script.now turns).events) ≡ ended) }
-    ensures limit { IfOk result (λ ended. (ended ≡ Ended.Limit) ↔ IsCutShort turns (after_picks script.now turns)) }
+    ensures ended { IfOk result (λ ended.
+        ended_of (after (start script.now) (replayed script.now turns).events) ≡ ended) }
+    ensures limit { IfOk result (TellsLimit turns (after_picks script.now turns)) }
 {
     let ended = print_journal(core, script, turns, buf, out)?;
     write_report(core, script, ended, buf, out)?;

@@ -3,7 +3,7 @@ ghost use Rattle.rt_base.specs.Outside.{Writes};
 ghost use Rattle.rt_model.specs.laws.Shape.{IsOf};
 ghost use Rattle.rt_core.specs.Report.{report_of};
 ghost use Rattle.rt_events.specs.Journal.{end_line};
-ghost use Rattle.rt_top.specs.Printing.{Prints};
+ghost use Rattle.rt_top.specs.Printing.{PrintsTo};
 
 use crate::printing::{flush, flush_if_full};
 use rt_base::limits::LINE_LIMIT;
@@ -23,7 +23,8 @@ pub fn write_report<K: Sink>(
     requires script { IsOf script.now core.now.state }
     requires empty { buf.old.items ≡ [] }
     requires room { LINE_LIMIT ≤ vec_capacity buf.old }
-    ensures writes { Writes result (K.held out.old) (K.held out.new) (K.faults out.old) (K.faults out.new) (end_line ended ++ report_of script.now core.now.state) }
+    ensures writes { Writes result (K.held out.old) (K.held out.new) (K.faults out.old) (K.faults out.new)
+        (end_line ended ++ report_of script.now core.now.state) }
     ensures buf { OnOk result (buf.new.items ≡ []) }
     ensures capacity { vec_capacity buf.old ≤ vec_capacity buf.new }
 {
@@ -41,7 +42,8 @@ fn push_report<K: Sink>(
 ) -> Result<(), Failed>
     requires script { IsOf script.now core.now.state }
     requires room { LINE_LIMIT ≤ vec_capacity buf.old }
-    ensures prints { Prints result (K.held out.old) buf.old.items (K.held out.new) buf.new.items (K.faults out.old) (K.faults out.new) (report_of script.now core.now.state) }
+    ensures prints { PrintsTo K.held K.faults result out.old buf.old.items out.new buf.new.items
+        (report_of script.now core.now.state) }
     ensures capacity { vec_capacity buf.old ≤ vec_capacity buf.new }
 {
     for i in 0..script.tasks() + script.locks() {

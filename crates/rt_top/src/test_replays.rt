@@ -12,71 +12,17 @@ pub(crate) fn compare_replays<R: Abort + Threads + Sync>(
     alloc: Global,
     replays: &[(&[u8], &[u8], u8)],
 ) -> Result<(), Fail> {
+    let words = words(alloc, &["replay"])?;
     for (text, printed, status) in replays {
-        compare_replay(rt, alloc, &["replay"], text, printed, *status)?;
+        let mut src = source(alloc, text)?;
+        let mut out = PlainSink::with_room(alloc, 1000).ok().ok_or("no memory")?;
+        assert_eq!(rt;
+            rtlab(rt, alloc, &words, &mut src, &mut out, &AlwaysGo),
+            *status
+        );
+        assert_eq!(rt; out.bytes(), *printed);
     }
     Ok(())
-}
-
-/// Replays each script with so many turns, which leave a task with a next event.
-pub(crate) fn compare_cuts<R: Abort + Threads + Sync>(
-    rt: &R,
-    alloc: Global,
-    replays: &[(&str, &[u8], &[u8])],
-) -> Result<(), Fail> {
-    for (turns, text, printed) in replays {
-        compare_replay(rt, alloc, &["replay", "--turns", turns], text, printed, 5)?;
-    }
-    Ok(())
-}
-
-/// Runs these words on the script, and compares what is written and the status.
-pub(crate) fn compare_replay<R: Abort + Threads + Sync>(
-    rt: &R,
-    alloc: Global,
-    texts: &[&str],
-    text: &[u8],
-    printed: &[u8],
-    status: u8,
-) -> Result<(), Fail> {
-    let words = words(alloc, texts)?;
-    let mut src = source(alloc, text)?;
-    let mut out = PlainSink::with_room(alloc, 20_000).ok().ok_or("no memory")?;
-    assert_eq!(rt;
-        rtlab(rt, alloc, &words, &mut src, &mut out, &AlwaysGo),
-        status
-    );
-    assert_eq!(rt; out.bytes(), printed);
-    Ok(())
-}
-
-/// Replays a script that ends done, with each of these priorities in the place of each `#`.
-pub(crate) fn compare_with_priorities<R: Abort + Threads + Sync>(
-    rt: &R,
-    alloc: Global,
-    text: &[u8],
-    printed: &[u8],
-    prios: &[&[u8]],
-) -> Result<(), Fail> {
-    for prio in prios {
-        let text = with_priority(alloc, text, prio)?;
-        let printed = with_priority(alloc, printed, prio)?;
-        compare_replay(rt, alloc, &["replay"], &text, &printed, 0)?;
-    }
-    Ok(())
-}
-
-/// The text with a priority in the place of each `#`.
-fn with_priority(alloc: Global, text: &[u8], prio: &[u8]) -> Result<Vec<u8>, AllocError> {
-    let mut filled = Vec::new(alloc);
-    for byte in text {
-        if *byte == b'#' {
-            filled.extend_from_slice(prio)?;
-        } else {
-            filled.push(*byte)?;
-        }
-    }
-    Ok(filled)
 }
 
 /// The words of a command.

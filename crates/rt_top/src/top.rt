@@ -1,10 +1,10 @@
-ghost use Rattle.std.specs.Prelude.{◌≡◌, ◌≢◌, ◌↔◌, ◌≤◌, ℕ, List, map, length, string_bytes, Result, Ok, Err};
+ghost use Rattle.std.specs.Prelude.{◌≡◌, ◌≢◌, ◌↔◌, ◌≤◌, ℕ, List, length};
 ghost use Rattle.rt_base.specs.Outside.{Takes};
 ghost use Rattle.rt_base.specs.Script.{IsScript};
 ghost use Rattle.rt_model.specs.Stage.{IsPlayable};
-ghost use Rattle.rt_script.specs.Grammar.{FaultAt};
-ghost use Rattle.rt_top.specs.Words.{IsAccepted, options_of};
-ghost use Rattle.rt_top.specs.Answer.{Answers, AnswersReplay, AnswersInput, Replays, AnswersBadScript, turns_of};
+ghost use Rattle.rt_top.specs.Words.{IsAccepted, bytes_of, options_of};
+ghost use Rattle.rt_top.specs.Answer.{Answers, AnswersReplay, AnswersInput, Replays, AnswersBadScript, input_of, output_of, turns_of};
+ghost use Rattle.rt_top.specs.Message.{fault_at};
 ghost use Rattle.rt_top.specs.Status.{status_number};
 ghost use Rattle.rt_top.specs.declared.status.Status.{Status};
 
@@ -38,14 +38,14 @@ pub fn rtlab<R: Threads + Sync, S: Source, K: Sink, T: Turnstile + Sync>(
     gate: &T,
 ) -> u8
     // Words that aren't taken are refused before anything is read.
-    ensures usage { (result ≡ 2) ↔ (IsAccepted (map (λ word. string_bytes word) words.now) → ⊥) }
+    ensures usage { (result ≡ 2) ↔ (IsAccepted (bytes_of words.now) → ⊥) }
     ensures unread { result ≡ 2 → src.new ≡ src.old }
 
     // One list of bytes stands for those that were read, and what the answer says is true of it.
     ensures outcome { (status : Status) × (bytes : List ℕ) × (result ≡ status_number status)
         × Takes (S.left src.old) bytes (S.left src.new)
-        × Answers (options_of (map (λ word. string_bytes word) words.now)) status bytes (record { left = S.left src.new; faults_before = S.faults src.old; faults_after = S.faults src.new })
-        (record { held_before = K.held out.old; held_after = K.held out.new; faults_before = K.faults out.old; faults_after = K.faults out.new }) }
+        × Answers (options_of (bytes_of words.now)) status bytes
+        (input_of S.left S.faults src.old src.new) (output_of K.held K.faults out.old out.new) }
 
     // All memory is taken before the first byte is written.
     ensures unwritten { result ≡ 8 → out.new ≡ out.old }
@@ -57,12 +57,12 @@ pub fn rtlab<R: Threads + Sync, S: Source, K: Sink, T: Turnstile + Sync>(
 
 // The command that the words name.
 fn command<S: Source, K: Sink>(alloc: Global, words: &[String], src: &mut S, out: &mut K) -> Status
-    ensures usage { (result ≡ Status.Usage) ↔ (IsAccepted (map (λ word. string_bytes word) words.now) → ⊥) }
+    ensures usage { (result ≡ Status.Usage) ↔ (IsAccepted (bytes_of words.now) → ⊥) }
     ensures unread { result ≡ Status.Usage → src.new ≡ src.old }
     ensures outcome { (bytes : List ℕ)
         × Takes (S.left src.old) bytes (S.left src.new)
-        × Answers (options_of (map (λ word. string_bytes word) words.now)) result bytes (record { left = S.left src.new; faults_before = S.faults src.old; faults_after = S.faults src.new })
-        (record { held_before = K.held out.old; held_after = K.held out.new; faults_before = K.faults out.old; faults_after = K.faults out.new }) }
+        × Answers (options_of (bytes_of words.now)) result bytes
+        (input_of S.left S.faults src.old src.new) (output_of K.held K.faults out.old out.new) }
     ensures unwritten { result ≡ Status.NoMemory → out.new ≡ out.old }
     ensures read_count { S.faults src.old ≤ S.faults src.new }
     ensures write_count { K.faults out.old ≤ K.faults out.new }
@@ -81,8 +81,8 @@ fn command<S: Source, K: Sink>(alloc: Global, words: &[String], src: &mut S, out
 fn replay<S: Source, K: Sink>(alloc: Global, options: Options, src: &mut S, out: &mut K) -> Status
     ensures outcome { (bytes : List ℕ)
         × Takes (S.left src.old) bytes (S.left src.new)
-        × AnswersReplay options result bytes (record { left = S.left src.new; faults_before = S.faults src.old; faults_after = S.faults src.new })
-        (record { held_before = K.held out.old; held_after = K.held out.new; faults_before = K.faults out.old; faults_after = K.faults out.new }) }
+        × AnswersReplay options result bytes
+        (input_of S.left S.faults src.old src.new) (output_of K.held K.faults out.old out.new) }
     ensures unwritten { result ≡ Status.NoMemory → out.new ≡ out.old }
     ensures read_count { S.faults src.old ≤ S.faults src.new }
     ensures write_count { K.faults out.old ≤ K.faults out.new }
@@ -105,7 +105,7 @@ fn replay<S: Source, K: Sink>(alloc: Global, options: Options, src: &mut S, out:
 // Replays the script that these bytes are.
 fn replay_input<K: Sink>(alloc: Global, options: Options, bytes: &[u8], out: &mut K) -> Status
     requires { length bytes.now ≤ MAX_BYTES }
-    ensures outcome { AnswersInput options result bytes.now (record { held_before = K.held out.old; held_after = K.held out.new; faults_before = K.faults out.old; faults_after = K.faults out.new }) }
+    ensures outcome { AnswersInput options result bytes.now (output_of K.held K.faults out.old out.new) }
     ensures read { (result ≢ Status.Usage) × (result ≢ Status.ReadFault) × (result ≢ Status.TooLong) }
     ensures unwritten { result ≡ Status.NoMemory → out.new ≡ out.old }
     ensures write_count { K.faults out.old ≤ K.faults out.new }
@@ -120,7 +120,8 @@ fn replay_input<K: Sink>(alloc: Global, options: Options, bytes: &[u8], out: &mu
 
 // Answers that the input is no script that is played, and writes the line that says why.
 fn answer_bad_script<K: Sink>(alloc: Global, line: u32, why: Why, out: &mut K) -> Status
-    ensures outcome { AnswersBadScript result (record { line = line; why = why }) (record { held_before = K.held out.old; held_after = K.held out.new; faults_before = K.faults out.old; faults_after = K.faults out.new }) }
+    ensures outcome { AnswersBadScript result (fault_at line why)
+        (output_of K.held K.faults out.old out.new) }
     ensures unwritten { result ≡ Status.NoMemory → out.new ≡ out.old }
     ensures write_count { K.faults out.old ≤ K.faults out.new }
 {
@@ -147,7 +148,8 @@ fn turns(options: Options, script: &Script) -> u64
 fn replay_script<K: Sink>(alloc: Global, options: Options, script: &Script, out: &mut K) -> Status
     requires valid { IsScript script.now }
     requires playable { IsPlayable script.now }
-    ensures outcome { Replays result script.now (turns_of options script.now) (record { held_before = K.held out.old; held_after = K.held out.new; faults_before = K.faults out.old; faults_after = K.faults out.new }) }
+    ensures outcome { Replays result script.now (turns_of options script.now)
+        (output_of K.held K.faults out.old out.new) }
     ensures unwritten { result ≡ Status.NoMemory → out.new ≡ out.old }
     ensures write_count { K.faults out.old ≤ K.faults out.new }
 {

@@ -1,6 +1,6 @@
-ghost use Rattle.std.specs.Prelude.{◌≡◌, ◌↔◌, ◌<◌, map, length, is_some, string_bytes, slice_index, IsTrue};
+ghost use Rattle.std.specs.Prelude.{◌≡◌, ◌↔◌, ◌<◌, length, is_some, slice_index, IsTrue};
 ghost use Rattle.rt_script.specs.Words.{number_upto};
-ghost use Rattle.rt_top.specs.Words.{options_of, options_after, with_option, no_options};
+ghost use Rattle.rt_top.specs.Words.{bytes_of, options_of, options_after, with_option, no_options};
 
 use crate::options::MAX_TURNS;
 
@@ -41,7 +41,7 @@ fn is_option(name: &str, word: &str) -> bool
 
 // Whether the words are options.
 fn are_options(words: &[String]) -> bool
-    ensures { result ≡ is_some (options_after no_options (map (λ word. string_bytes word) words.now)) }
+    ensures { result ≡ is_some (options_after no_options (bytes_of words.now)) }
 {
     match words {
         [] => true,
@@ -52,7 +52,7 @@ fn are_options(words: &[String]) -> bool
 
 /// Whether the words are taken.
 pub fn is_accepted(words: &[String]) -> bool
-    ensures { result ≡ is_some (options_of (map (λ word. string_bytes word) words.now)) }
+    ensures { result ≡ is_some (options_of (bytes_of words.now)) }
 {
     match words {
         [command, options @ ..] => command.as_str() == "replay" && are_options(options),

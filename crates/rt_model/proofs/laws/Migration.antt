@@ -400,18 +400,10 @@ few-reads s made t call lawful calling l =
         let one : length (get_or s.threads i d).calls ≤ calls_of s.threads = subst (λ (n : ℕ). calls_at (get_or s.threads i d) ≤ n) (sym (sum-map calls_at s.threads)) (get_or-le-sum_by calls_at s.threads i d lt) in
         omega (arith, one, lawful.shape.few_calls)
 
--- so its migration count is at most so many for each lock, and one for a write hold
-pub few-pinned : (s : State) (made : ℕ) (t : TaskId) (call : Call) → IsLawful s made → call_of (thread_part s t) ≡ Some call → (thread_part s t).migration ≤ MAX_LOCKS * (MAX_CALLS + 1)
-few-pinned s made t call lawful calling =
-    let there = (at_call s t call calling).1 in
-    let kinds : length thread.kinds ≡ length s.locks = All-default (λ (th : ThreadPart). length th.kinds ≡ length s.locks) s.threads t.0 _ lawful.shape.kinds there in
-    let few = lawful.shape.few_locks in
-    let most : pinned thread ≤ length thread.kinds * (MAX_CALLS + 1) = count-most pins (MAX_CALLS + 1) thread.kinds thread.holds (record { owns = false; reads = 0 }) each in
-    omega (arith, kinds, few, most, lawful.migration t)
+-- who has so many read holds of each lock at most pins so many at most for each, and one for a write hold
+pub pinned-most : (thread : ThreadPart) (most : ℕ) → ((l : LockId) → (hold_of thread l).reads ≤ most) → pinned thread ≤ length thread.kinds * (most + 1)
+pinned-most thread most few = count-most pins (most + 1) thread.kinds thread.holds (record { owns = false; reads = 0 }) (λ kind i. omega (arith, pins-most kind (hold_of thread (record { 0 = i })), few (record { 0 = i })))
   where
-    thread : ThreadPart
-    thread = thread_part s t
-
     one-most : (b : Bool) → cond b 1 0 ≤ 1
     one-most true = omega arith
     one-most false = omega arith
@@ -421,5 +413,10 @@ few-pinned s made t call lawful calling =
     pins-most RwLock hold = omega (arith, one-most hold.owns)
     pins-most _ hold = omega arith
 
-    each : (kind : Kind) (i : ℕ) → pins kind (hold_of thread (record { 0 = i })) ≤ MAX_CALLS + 1
-    each kind i = omega (arith, pins-most kind (hold_of thread (record { 0 = i })), few-reads s made t call lawful calling (record { 0 = i }))
+-- so its migration count has a bound
+pub few-pinned : (s : State) (made : ℕ) (t : TaskId) (call : Call) → IsLawful s made → call_of (thread_part s t) ≡ Some call → (thread_part s t).migration ≤ MAX_LOCKS * (MAX_CALLS + 1)
+few-pinned s made t call lawful calling =
+    let thread = thread_part s t in
+    let kinds : length thread.kinds ≡ length s.locks = All-default (λ (th : ThreadPart). length th.kinds ≡ length s.locks) s.threads t.0 _ lawful.shape.kinds (at_call s t call calling).1 in
+    let most : pinned thread ≤ length thread.kinds * (MAX_CALLS + 1) = pinned-most thread MAX_CALLS (λ l. omega (arith, few-reads s made t call lawful calling l)) in
+    omega (arith, kinds, lawful.shape.few_locks, most, lawful.migration t)

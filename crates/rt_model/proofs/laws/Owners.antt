@@ -1,95 +1,134 @@
 -- A next event keeps the owners law.
-use Rattle.std.proofs.Common.{◌≡◌, ℕ, ◌<◌, Bool, true, false, cond, List, length, refl, sym, ap, ◌∙◌, subst, Option, Some, None}
-use Rattle.std.specs.Prelude.{nat_eq, nat_lt}
-use Rattle.std.proofs.lemmas.Bool.{cond-true, cond-false, cond_both}
+use Rattle.std.proofs.Common.{◌≡◌, ℕ, ◌+◌, ◌-◌, ◌<◌, Bool, true, false, cond, ◌&&◌, List, length, refl, sym, ap, ◌∙◌, subst, Option, Some, None, IfSome}
+use Rattle.std.specs.Prelude.{nat_eq, nat_lt, slice_set, option_and_then}
+use Rattle.std.proofs.lemmas.Bool.{and_right, or_right, or_parts}
 use Rattle.rt_base.specs.declared.call.Call.{Call}
 use Rattle.rt_base.specs.declared.call.Call.TheVariants as calls
 use Rattle.rt_base.specs.declared.id.LockId.{LockId}
 use Rattle.rt_base.specs.declared.id.TaskId.{TaskId}
 use Rattle.rt_base.specs.declared.kind.Kind.{Kind}
+use Rattle.rt_base.specs.declared.kind.Kind.TheVariants as locks
 use Rattle.rt_base.specs.declared.reply.Reply.{Reply}
 use Rattle.rt_base.specs.declared.reply.Reply.TheVariants as replies
 use Rattle.rt_model.specs.declared.event.Event.{Event}
+use Rattle.rt_model.specs.declared.event_kind.EventKind.{EventKind}
+use Rattle.rt_model.specs.declared.event_kind.EventKind.TheVariants as kinds
 use Rattle.rt_model.specs.declared.hold.Hold.{Hold}
+use Rattle.rt_model.specs.declared.phase.Phase.{Phase}
 use Rattle.rt_model.specs.declared.phase.Phase.TheVariants as phases
 use Rattle.rt_model.specs.declared.phase.Route.{Route}
 use Rattle.rt_model.specs.declared.phase.Route.TheVariants.{Short}
-use Rattle.rt_model.specs.Parts.{OwnerPart, TaskPart, ThreadPart, call_of, hold_of, kind_of}
+use Rattle.rt_model.specs.Parts.{TaskPart, ThreadPart, call_of, hold_of, kind_of}
 use Rattle.rt_model.specs.State.{State, shared, owner_part, task_part, thread_part}
+use Rattle.rt_model.specs.Choice.{called_lock, present_lock, is_on}
 use Rattle.rt_model.specs.Rules.{touched}
 use Rattle.rt_model.specs.events.Own.{unless_nested, if_held, if_not_held, private_answer}
-use Rattle.rt_model.specs.steps.Thread.{with_hold, holds_after}
+use Rattle.rt_model.specs.events.Readers.{phase_after_rin}
+use Rattle.rt_model.specs.events.Wait.{phase_after_wait}
+use Rattle.rt_model.specs.steps.Thread.{with_hold, holds_after, answered_with, phase_after_got, got_answer, phase_after_busy, released_answer}
 use Rattle.rt_model.specs.StateAfter.{effect_in, thread_after, state_after}
-use Rattle.rt_model.specs.Stage.{IsServed, IsPhaseOf}
+use Rattle.rt_model.specs.Stage.{IsPhaseOf}
 use Rattle.rt_model.specs.steps.Chain.{followed, goes_on}
 use Rattle.rt_model.specs.steps.Task.{with_own, wake_answer, signal_answer}
-use Rattle.rt_model.specs.laws.Owners.{OwnersLaw, owned_by}
+use Rattle.rt_model.specs.laws.Owners.{OwnersLaw, owned_by, has_inner, is_inside, has_owner_part, gives_back}
 use Rattle.rt_model.specs.laws.Lawful.{IsLawful}
-use Rattle.rt_model.proofs.Leaves.{IsLeft, by_leave, by_cycle, left_answer, left_kind, left_made, left-is, left-there, left-fits, left-thread, leave-left, cycle-left}
+use Rattle.rt_model.proofs.Leaves.{IsLeft, by_leave, by_cycle, left_answer, left_kind, left_phase, left_made, left-is, left-asks, left-there, left-fits, left-thread, leave-left, cycle-left}
 use Rattle.rt_model.proofs.Links.{walked_thread, link-thread, end-thread, setprio-thread}
-use Rattle.rt_model.proofs.NextEvents.{IsNext, by_own, by_acquire, by_wait, by_release, by_walk, by_confirm, by_wakeup, by_setprio}
+use Rattle.rt_model.proofs.NextEvents.{IsNext, by_own, by_acquire, by_wait, by_release, by_reading, by_walk, by_confirm, by_wakeup, by_setprio}
+use Rattle.rt_model.proofs.Inside.{present-at, apart-owns, outside, outside-owns, inside-at, outside-owned, inside-owned, returns-owned}
 use Rattle.rt_model.proofs.Owned.{changes_owner, owners-kept}
 use Rattle.rt_model.proofs.Routes.{walk-fits, setprio-fits, SameSort, SameSort-itself, SameSort-followed, walked-holds}
-use Rattle.rt_model.proofs.Calling.{Tries, tries-holds, Returns, releases-holds}
+use Rattle.rt_model.proofs.Calling.{IsIn, Tries, tries-holds, Returns, ReturnsBy, from_hold, from_inside, releases-holds, ends-holds, Writes, writes_by, writes-holds}
 use Rattle.rt_model.proofs.ToCome.{to_come-holds}
-use Rattle.rt_model.proofs.events.Acquire.{is_fast, is_mark, is_take, is_busy, IsAcquiring, fast-acquiring, take-acquiring, got-holds}
+use Rattle.rt_model.proofs.Waiters.{walk-phase}
+use Rattle.rt_model.proofs.events.Acquire.{is_fast, is_mark, is_take, is_busy, AsksBy, from_start, from_reading, IsAcquiring, fast-acquiring, take-acquiring, acquiring-holds}
+use Rattle.rt_model.proofs.events.Own.{IsOwn}
+use Rattle.rt_model.proofs.Reading.{reading-kind}
+use Rattle.rt_model.proofs.events.Readers.{IsReading, IsMade, is_read, is_tryread, is_let_in, is_shut, is_tryshut, is_out, is_wwake, is_unbias, is_in, is_sleep, is_given_up, is_in_late, is_sleep_again, is_opened, is_downgraded, reading-in, reading-task}
 use Rattle.rt_model.proofs.events.Walk.{is_walk, is_walkend, is_restart, is_cycle}
 use Rattle.rt_model.proofs.events.Wait.{is_wait, is_again, is_leave}
 use Rattle.rt_model.proofs.events.Release.{is_free, is_give}
 use Rattle.rt_model.proofs.events.Wakeups.{is_state, is_sched, is_wake, is_signal}
-use Rattle.rt_model.proofs.Numbers.{number_itself, same_lock, nobodys, one_owner}
+use Rattle.rt_model.proofs.Numbers.{number_itself, at_each_lock, nobodys, one_owner}
 use Rattle.rt_model.proofs.Queues.{unowned-can_take}
 use Rattle.rt_model.proofs.Within.{holds_room}
 use Rattle.rt_model.proofs.PartsAfter.{read-set_same, read-set_other, lock-made, thread-made}
 
--- ---- holds
+-- an event of this kind is of a writer that has the inner lock
+abbrev pub is_writers : EventKind → Bool
+is_writers kinds.WTake = true
+is_writers kinds.WOpen = true
+is_writers _ = false
 
--- a hold that is read after one was written
-read-with_hold : (thread : ThreadPart) (l m : LockId) (owns : Bool) → l.0 < length thread.holds
-    → (hold_of (record thread { holds = with_hold thread l owns }) m).owns ≡ cond (nat_eq l.0 m.0) owns (hold_of thread m).owns
-read-with_hold thread l m owns lt =
-    let hold : Hold = record (hold_of thread l) { owns = owns } in
-    let read : LockId → Hold = λ n. hold_of (record thread { holds = with_hold thread l owns }) n in
-    cond_both (nat_eq l.0 m.0) owns (hold_of thread m).owns (λ (b : Bool). (read m).owns ≡ b)
-    (λ is. subst (λ (n : LockId). (read n).owns ≡ owns) (same_lock l m is) (ap (λ (h : Hold). h.owns) (read-set_same thread.holds l.0 hold (record { owns = false; reads = 0 }) lt)))
-    (λ is. ap (λ (h : Hold). h.owns) (read-set_other thread.holds l.0 m.0 hold (record { owns = false; reads = 0 }) is))
+-- ---- answers that leave what a thread holds
 
 -- what a thread answers at once gives it no lock, and releases none
 pub held_never_got : (held : Bool) → if_held held ≡ Some replies.Got → ⊥
 held_never_got true is = cc
 held_never_got false is = cc
 
-never_got : (nested : ℕ) (held : Bool) → unless_nested nested (if_held held) ≡ Some replies.Got → ⊥
-never_got nested held is = by_test (nat_lt 0 nested) held is
-  where
-    by_test : (b h : Bool) → cond b (Some replies.Nesting) (if_held h) ≡ Some replies.Got → ⊥
-    by_test true h is = cc
-    by_test false h is = held_never_got h is
-
 pub never_done : (held : Bool) → if_not_held held ≡ Some replies.Done → ⊥
 never_done true is = cc
 never_done false is = cc
 
-refused_holds : (m n : ℕ) (thread : ThreadPart) (call : Call) (answer : Reply) (kind : Option Kind) (nested : ℕ) (held : Bool) (migration : ℕ) → IsServed m n call → private_answer call kind nested held migration ≡ Some answer
-    → holds_after thread (Some call) answer ≡ thread.holds
-refused_holds m n thread (calls.Lock l) replies.Got kind nested held migration served is = absurd (never_got nested held is)
-refused_holds m n thread (calls.Lock l) _ kind nested held migration served is = refl
-refused_holds m n thread (calls.LockInt l) replies.Got kind nested held migration served is = absurd (never_got nested held is)
-refused_holds m n thread (calls.LockInt l) _ kind nested held migration served is = refl
-refused_holds m n thread (calls.TryLock l) answer kind nested held migration served is = cc
-refused_holds m n thread (calls.Unlock l) replies.Done kind nested held migration served is = absurd (never_done held is)
-refused_holds m n thread (calls.Unlock l) _ kind nested held migration served is = refl
-refused_holds m n thread (calls.Spin l) replies.Got kind nested held migration served is = absurd (held_never_got held is)
-refused_holds m n thread (calls.Spin l) _ kind nested held migration served is = refl
-refused_holds m n thread (calls.TrySpin l) answer kind nested held migration served is = cc
-refused_holds m n thread (calls.Unspin l) replies.Done kind nested held migration served is = absurd (never_done held is)
-refused_holds m n thread (calls.Unspin l) _ kind nested held migration served is = refl
-refused_holds m n thread (calls.State state) answer kind nested held migration served is = refl
-refused_holds m n thread calls.Schedule answer kind nested held migration served is = refl
-refused_holds m n thread (calls.Wake u) answer kind nested held migration served is = refl
-refused_holds m n thread (calls.Signal u) answer kind nested held migration served is = refl
-refused_holds m n thread (calls.SetPrio u prio) answer kind nested held migration served is = refl
-refused_holds m n thread _ answer kind nested held migration served is = absurd served
+-- all that it answers is a refusal
+abbrev pub is_refusal : Reply → Bool
+is_refusal replies.Deadlock = true
+is_refusal replies.Nesting = true
+is_refusal replies.NotOwner = true
+is_refusal replies.Pinned = true
+is_refusal _ = false
+
+abbrev Refuses : Option Reply → Type 0
+Refuses o = IfSome o (λ answer. is_refusal answer ≡ true)
+
+held_refuses : (held : Bool) → Refuses (if_held held)
+held_refuses true = refl
+held_refuses false = tt
+
+unheld_refuses : (held : Bool) → Refuses (if_not_held held)
+unheld_refuses true = tt
+unheld_refuses false = refl
+
+nested_refuses : (nested : ℕ) (o : Option Reply) → Refuses o → Refuses (unless_nested nested o)
+nested_refuses nested o refuses = by_test (nat_lt 0 nested)
+  where
+    by_test : (b : Bool) → Refuses (cond b (Some replies.Nesting) o)
+    by_test true = refl
+    by_test false = refuses
+
+pinned_refuses : (pinned : Bool) → Refuses (cond pinned (Some replies.Pinned) None)
+pinned_refuses true = refl
+pinned_refuses false = tt
+
+private-refuses : (call : Call) (kind : Option Kind) (nested : ℕ) (held : Bool) (migration : ℕ) → Refuses (private_answer call kind nested held migration)
+private-refuses (calls.Lock l) kind nested held migration = nested_refuses nested (if_held held) (held_refuses held)
+private-refuses (calls.LockInt l) kind nested held migration = nested_refuses nested (if_held held) (held_refuses held)
+private-refuses (calls.Spin l) kind nested held migration = held_refuses held
+private-refuses (calls.Local l) kind nested held migration = held_refuses held
+private-refuses (calls.Read l) (Some locks.RwSem) nested held migration = nested_refuses nested (if_held held) (held_refuses held)
+private-refuses (calls.Read l) kind nested held migration = held_refuses held
+private-refuses (calls.Write l) (Some locks.RwSem) nested held migration = nested_refuses nested (if_held held) (held_refuses held)
+private-refuses (calls.Write l) kind nested held migration = held_refuses held
+private-refuses (calls.Unlock l) kind nested held migration = unheld_refuses held
+private-refuses (calls.Unspin l) kind nested held migration = unheld_refuses held
+private-refuses (calls.Unread l) kind nested held migration = unheld_refuses held
+private-refuses (calls.Unwrite l) kind nested held migration = unheld_refuses held
+private-refuses (calls.Downgrade l) kind nested held migration = unheld_refuses held
+private-refuses (calls.Unlocal l) kind nested held migration = unheld_refuses held
+private-refuses calls.Schedule kind nested held migration = nested_refuses nested None tt
+private-refuses (calls.Move cpu) kind nested held migration = pinned_refuses (nat_lt 0 migration)
+private-refuses _ kind nested held migration = tt
+
+pub own-refuses : (s : State) (t : TaskId) (call : Call) (answer : Reply) (e : Event) → IsOwn s t call answer e → is_refusal answer ≡ true
+own-refuses s t call answer e is = subst Refuses is.why (private-refuses call _ _ _ _)
+
+-- which leaves what the thread holds
+refused_holds : (thread : ThreadPart) (call : Call) (answer : Reply) → is_refusal answer ≡ true → holds_after thread (Some call) answer ≡ thread.holds
+refused_holds thread (calls.Lock l) replies.Got refuses = cc
+refused_holds thread _ replies.Got refuses = cc
+refused_holds thread _ replies.Done refuses = cc
+refused_holds thread _ _ refuses = refl
 
 -- what the thread holds, as its call says
 holds_at : (thread : ThreadPart) (call : Call) (answer : Reply) → call_of thread ≡ Some call → holds_after thread (call_of thread) answer ≡ holds_after thread (Some call) answer
@@ -101,122 +140,365 @@ short_holds thread u answer (Some call) fits = to_come-holds (λ c a. holds_afte
 short_holds thread u answer None fits = absurd fits
 
 -- so a walk leaves what its thread holds
-walk_holds : (thread : ThreadPart) (t u : TaskId) (route onward : Route) (owner : Option TaskId) (task : TaskPart) → SameSort route onward → IsPhaseOf (phases.Walk u route) (call_of thread)
+pub walk_holds : (thread : ThreadPart) (t u : TaskId) (route onward : Route) (owner : Option TaskId) (task : TaskPart) → SameSort route onward → IsPhaseOf (phases.Walk u route) (call_of thread)
     → (walked_thread thread route (goes_on t onward owner task)).holds ≡ thread.holds
 walk_holds thread t u route onward owner task sort =
     walked-holds (λ r th. IsPhaseOf (phases.Walk u r) (call_of thread) → th.holds ≡ thread.holds) thread t route onward owner task sort
     (λ path fits. refl) (λ path rest fits. refl) (λ path rest o fits. refl) (λ answer. short_holds (record thread { phase = phases.Start }) u answer (call_of thread)) (λ answer o fits. refl)
 
--- ---- owners
+-- ---- what a thread has
 
-owned_either : (b : Bool) (o p : Option TaskId) (u : TaskId) → owned_by (cond b o p) u ≡ cond b (owned_by o u) (owned_by p u)
-owned_either true o p u = refl
-owned_either false o p u = refl
+-- it has the owner part of this lock, or hasn't; and where it is on its way, it holds it, not for reading, where it gives it back
+record Stands (thread : ThreadPart) (l : LockId) (owns : Bool) : Type 0 where
+  owned : has_owner_part thread l ≡ owns
+  inside : is_inside thread l ≡ true → (hold_of thread l).owns ≡ gives_back thread.phase (call_of thread)
 
--- a lock that a task owns neither before nor after is as it was to that task
-not_others : (s : State) (l m : LockId) (b : Bool) (u : TaskId) → nat_eq l.0 m.0 ≡ b → owned_by (owner_part s l).owner u ≡ false → cond b false (owned_by (owner_part s m).owner u) ≡ owned_by (owner_part s m).owner u
-not_others s l m true u is unowned = sym (subst (λ (n : LockId). owned_by (owner_part s n).owner u ≡ false) (same_lock l m is) unowned)
-not_others s l m false u is unowned = refl
+-- where it isn't inside that, it has what it holds
+apart : (thread : ThreadPart) (l : LockId) (owns : Bool) → is_inside thread l ≡ false → (hold_of thread l).owns ≡ owns → Stands thread l owns
+apart thread l owns out is = record { owned = apart-owns thread l out ∙ is; inside = λ its. let no : false ≡ true = sym out ∙ its in absurd cc }
 
--- a lock that an event gives to o has that owner, and every other lock its own
-abbrev Gives : State → LockId → Option TaskId → LockId → OwnerPart → Type 0
-Gives s l o m lock = lock.owner ≡ cond (nat_eq l.0 m.0) o (owner_part s m).owner
+-- what an event of a call on lock l leaves of its thread: of l it has the owner part, or hasn't, and of every other lock where it held that
+record Leaves (thread left : ThreadPart) (l : LockId) (owns : Bool) : Type 0 where
+  here : Stands left l owns
+  there : (m : LockId) → nat_eq l.0 m.0 ≡ false → Stands left m (hold_of thread m).owns
 
-gives_here : (s : State) (l : LockId) (o : Option TaskId) → o ≡ cond (nat_eq l.0 l.0) o (owner_part s l).owner
-gives_here s l o = sym (cond-true (nat_eq l.0 l.0) o (owner_part s l).owner (number_itself l.0))
+-- on its way it has the owner part of its lock
+on_way : (thread : ThreadPart) (l : LockId) (phase : Phase) → has_inner phase ≡ true → present_lock thread ≡ Some l → (hold_of thread l).owns ≡ gives_back phase (call_of thread)
+    → Leaves thread (record thread { phase = phase }) l true
+on_way thread l phase has present owns =
+    let left : ThreadPart = record thread { phase = phase } in
+    record {
+      here = record { owned = or_right (hold_of thread l).owns (is_inside left l) (inside-at left l l has present ∙ number_itself l.0); inside = λ its. owns };
+      there = λ m ne. apart left m (hold_of thread m).owns (inside-at left l m has present ∙ ne) refl;
+    }
 
-gives_there : (s : State) (l m : LockId) (o : Option TaskId) → nat_eq l.0 m.0 ≡ false → (owner_part s m).owner ≡ cond (nat_eq l.0 m.0) o (owner_part s m).owner
-gives_there s l m o there = sym (cond-false (nat_eq l.0 m.0) o (owner_part s m).owner there)
+-- answered, with this hold of its lock, it has what that says
+answered : (thread left : ThreadPart) (l : LockId) (hold : Hold) → l.0 < length thread.holds → has_inner left.phase ≡ false → left.holds ≡ slice_set thread.holds l.0 hold → Leaves thread left l hold.owns
+answered thread left l hold lt out is = record {
+  here = apart left l hold.owns (outside left l out) (ap (read l) is ∙ ap (λ (h : Hold). h.owns) (read-set_same thread.holds l.0 hold (record { owns = false; reads = 0 }) lt));
+  there = λ m ne. apart left m (hold_of thread m).owns (outside left m out) (ap (read m) is ∙ ap (λ (h : Hold). h.owns) (read-set_other thread.holds l.0 m.0 hold (record { owns = false; reads = 0 }) ne));
+}
+  where
+    read : LockId → List Hold → Bool
+    read m holds = (hold_of (record thread { holds = holds }) m).owns
+
+-- with the holds that it had, too
+unchanged : (thread left : ThreadPart) (l : LockId) → has_inner left.phase ≡ false → left.holds ≡ thread.holds → (owns : Bool) → (hold_of thread l).owns ≡ owns → Stands left l owns
+unchanged thread left l out is owns held = apart left l owns (outside left l out) (ap (λ (holds : List Hold). (hold_of (record thread { holds = holds }) l).owns) is ∙ held)
+
+same_holds : (thread left : ThreadPart) (l : LockId) → has_inner left.phase ≡ false → left.holds ≡ thread.holds → Leaves thread left l (hold_of thread l).owns
+same_holds thread left l out is = record { here = unchanged thread left l out is (hold_of thread l).owns refl; there = λ m ne. unchanged thread left m out is (hold_of thread m).owns refl }
+
+-- who is inside holds its lock, not for reading, where it gives it back
+inside-gives : (s : State) (t : TaskId) (l : LockId) → OwnersLaw s → (phase : Phase) (call : Call) → IsIn s t phase call → has_inner phase ≡ true → called_lock (thread_part s t).cpu call ≡ Some l
+    → (hold_of (thread_part s t) l).owns ≡ gives_back phase (Some call)
+inside-gives s t l owners phase call at has lock =
+    owners.inside l t (inside-at (thread_part s t) l l (ap has_inner at.phased ∙ has) (present-at s t phase call (Some l) at lock) ∙ number_itself l.0)
+    ∙ (λ i. gives_back (at.phased i) (at.calling i))
+
+-- ---- who gets an owner part, and who releases one
+
+-- the lock that a thread's call is about
+about : (thread : ThreadPart) (call : Call) → call_of thread ≡ Some call → present_lock thread ≡ called_lock thread.cpu call
+about thread call calling = ap (λ (c : Option Call). option_and_then (called_lock thread.cpu) c) calling
+
+-- the thread of a call that has this answer, in some phase before
+abbrev With : ThreadPart → Phase → Reply → ThreadPart
+With thread phase answer = answered_with (record thread { phase = phase }) (Some answer)
+
+-- what an acquire leaves of a thread at this call
+abbrev Got : ThreadPart → Option Call → ThreadPart
+Got thread call = answered_with (record thread { phase = phase_after_got call thread.phase }) (got_answer call)
+
+module _ (s : State) (t : TaskId) (l : LockId) (room : l.0 < length (thread_part s t).holds) where
+  abbrev thread : ThreadPart
+  thread = thread_part s t
+
+  -- an answer that writes this hold
+  writes_hold : (phase : Phase) (call : Call) (answer : Reply) (hold : Hold) → holds_after (record thread { phase = phase }) (Some call) answer ≡ slice_set thread.holds l.0 hold → call_of thread ≡ Some call
+      → Leaves thread (With thread phase answer) l hold.owns
+  writes_hold phase call answer hold writes calling = answered thread (With thread phase answer) l hold room refl (holds_at (record thread { phase = phase }) call answer calling ∙ writes)
+
+  -- got, by a call that then holds the lock, and not for reading
+  got : (call : Call) → holds_after thread (Some call) replies.Got ≡ with_hold thread l true → call_of thread ≡ Some call → Leaves thread (With thread thread.phase replies.Got) l true
+  got call = writes_hold thread.phase call replies.Got (record (hold_of thread l) { owns = true })
+
+  -- a step to a phase in which it has the inner lock
+  enters : (phase : Phase) (call : Call) → has_inner phase ≡ true → called_lock thread.cpu call ≡ Some l → (hold_of thread l).owns ≡ gives_back phase (Some call) → call_of thread ≡ Some call
+      → Leaves thread (record thread { phase = phase }) l true
+  enters phase call has lock owns calling = on_way thread l phase has (about thread call calling ∙ lock) (owns ∙ ap (gives_back phase) (sym calling))
+
+  -- an acquire
+  acquired : IsAcquiring s t l → (hold_of thread l).owns ≡ false → Leaves thread (Got thread (call_of thread)) l true
+  acquired is unheld =
+      subst (λ (c : Option Call). Leaves thread (Got thread c) l true) (sym is.calling)
+      (acquiring-holds (λ c. call_of thread ≡ Some c → Leaves thread (Got thread (Some c)) l true) is.call l is.acquires
+      (got (calls.Lock l) refl) (got (calls.LockInt l) refl) (got (calls.Spin l) refl) (got (calls.TryLock l) refl) (got (calls.TrySpin l) refl)
+      (enters phases.ReadIn (calls.Read l) refl refl unheld) (enters phases.Unbias (calls.Write l) refl refl unheld) (enters phases.Unbias (calls.TryWrite l) refl refl unheld) is.calling)
+
+  -- a release
+  released : OwnersLaw s → Returns s t l → Leaves thread (answered_with thread (Some (released_answer (call_of thread)))) l false
+  released owners is = subst (λ (c : Option Call). Leaves thread (Freed c) l false) (sym is.calling) (by_how is.by)
+    where
+      Freed : Option Call → ThreadPart
+      Freed c = answered_with thread (Some (released_answer c))
+
+      done : (call : Call) → holds_after thread (Some call) replies.Done ≡ with_hold thread l false → call_of thread ≡ Some call → Leaves thread (With thread thread.phase replies.Done) l false
+      done call = writes_hold thread.phase call replies.Done (record (hold_of thread l) { owns = false })
+
+      by_how : ReturnsBy s t l is.call → Leaves thread (Freed (Some is.call)) l false
+      by_how (from_hold releases at held) =
+          releases-holds (λ c. call_of thread ≡ Some c → Leaves thread (Freed (Some c)) l false) is.call l releases (done (calls.Unlock l) refl) (done (calls.Unspin l) refl) is.calling
+      by_how (from_inside ends at) =
+          ends-holds (λ c. (hold_of thread l).owns ≡ gives_back phases.Release (Some c) → call_of thread ≡ Some c → Leaves thread (Freed (Some c)) l false) is.call l ends
+          (λ owns calling. subst (Leaves thread (With thread thread.phase replies.Got) l) owns (writes_hold thread.phase (calls.Read l) replies.Got (record (hold_of thread l) { reads = (hold_of thread l).reads + 1 }) refl calling))
+          (λ owns calling. subst (Leaves thread (With thread thread.phase replies.Busy) l) owns (same_holds thread (With thread thread.phase replies.Busy) l refl (holds_at thread (calls.TryWrite l) replies.Busy calling)))
+          (λ owns. done (calls.Unwrite l) refl)
+          (λ owns. writes_hold thread.phase (calls.Downgrade l) replies.Done (record { owns = false; reads = (hold_of thread l).reads + 1 }) refl)
+          (inside-gives s t l owners phases.Release is.call at refl (ends-holds (λ c. called_lock thread.cpu c ≡ Some l) is.call l ends refl refl refl refl)) is.calling
+
+-- ---- readers and writers
+
+-- an event at a reader part leaves its thread with the owner part of the lock, or without it, as it was; a writer has it
+record Steps (s : State) (t : TaskId) (l : LockId) (e : Event) : Type 0 where
+  owns : Bool
+  was : owns ≡ owned_by (owner_part s l).owner t
+  leaves : Leaves (thread_part s t) (thread_after (shared s) (thread_part s t) e) l owns
+  writers : is_writers e.kind ≡ true → owns ≡ true
+
+steps : (s : State) (made : ℕ) (t : TaskId) (l : LockId) (e : Event) → IsLawful s made → IsReading s t l e → Steps s t l e
+steps s made t l e lawful reading = by_kind reading
+  where
+    thread : ThreadPart
+    thread = thread_part s t
+
+    room : l.0 < length thread.holds
+    room = let at = reading-in s t l e reading in holds_room s t l lawful.shape at.at.task at.lock
+
+    Left : Event → ThreadPart
+    Left x = thread_after (shared s) thread x
+
+    -- a reader that goes through no inner lock has what it holds
+    stays : (phase : Phase) (call : Call) (x : Event) → IsMade s t l phase call x e → has_inner phase ≡ false → is_writers x.kind ≡ false → Leaves thread (Left x) l (hold_of thread l).owns → Steps s t l e
+    stays phase call x is out reads leaves = record {
+      owns = (hold_of thread l).owns;
+      was = outside-owned s t l lawful.owners phase call is.at out;
+      leaves = subst (λ (y : Event). Leaves thread (Left y) l (hold_of thread l).owns) (sym is.event) leaves;
+      writers = λ its. let no : false ≡ true = sym reads ∙ (ap (λ (y : Event). is_writers y.kind) (sym is.event) ∙ its) in absurd cc;
+    }
+
+    stays_same : (phase : Phase) (call : Call) (x : Event) → IsMade s t l phase call x e → has_inner phase ≡ false → is_writers x.kind ≡ false → has_inner (Left x).phase ≡ false → (Left x).holds ≡ thread.holds → Steps s t l e
+    stays_same phase call x is out reads still same = stays phase call x is out reads (same_holds thread (Left x) l still same)
+
+    has : (phase : Phase) (call : Call) (x : Event) → IsMade s t l phase call x e → owned_by (owner_part s l).owner t ≡ true → Leaves thread (Left x) l true → Steps s t l e
+    has phase call x is owned leaves = record { owns = true; was = sym owned; leaves = subst (λ (y : Event). Leaves thread (Left y) l true) (sym is.event) leaves; writers = λ its. refl }
+
+    -- who is on its way goes on, or gets in
+    goes : (phase onward : Phase) (call : Call) (x : Event) → IsMade s t l phase call x e → has_inner phase ≡ true → has_inner onward ≡ true → called_lock thread.cpu call ≡ Some l
+        → gives_back phase (Some call) ≡ gives_back onward (Some call) → Left x ≡ record thread { phase = onward } → Steps s t l e
+    goes phase onward call x is inner still lock gives left =
+        has phase call x is (inside-owned s t l lawful.owners phase call is.at inner lock)
+        (subst (λ (th : ThreadPart). Leaves thread th l true) (sym left) (enters s t l room onward call still lock (inside-gives s t l lawful.owners phase call is.at inner lock ∙ gives) is.at.calling))
+
+    gets : (phase : Phase) (call : Call) (x : Event) → IsMade s t l phase call x e → has_inner phase ≡ true → Writes call l → Left x ≡ With thread thread.phase replies.Got → Steps s t l e
+    gets phase call x is inner writes left =
+        has phase call x is (inside-owned s t l lawful.owners phase call is.at inner (writes-holds (λ c. called_lock thread.cpu c ≡ Some l) call l writes refl refl))
+        (subst (λ (th : ThreadPart). Leaves thread th l true) (sym left)
+        (writes-holds (λ c. call_of thread ≡ Some c → Leaves thread (With thread thread.phase replies.Got) l true) call l writes (got s t l room (calls.Write l) refl) (got s t l room (calls.TryWrite l) refl) is.at.calling))
+
+    -- who leaves, or downgrades, is on its way out
+    opens : (call : Call) (x : Event) → IsMade s t l phases.Start call x e → (hold_of thread l).owns ≡ true → called_lock thread.cpu call ≡ Some l → gives_back phases.Release (Some call) ≡ true
+        → Left x ≡ record thread { phase = phases.Release } → Steps s t l e
+    opens call x is held lock gives left =
+        has phases.Start call x is (sym (outside-owned s t l lawful.owners phases.Start call is.at refl) ∙ held)
+        (subst (λ (th : ThreadPart). Leaves thread th l true) (sym left) (enters s t l room phases.Release call refl lock (held ∙ sym gives) is.at.calling))
+
+    -- one reader more, or less
+    reads : (phase : Phase) (call : Call) (answer : Reply) (n : ℕ) → holds_after thread (Some call) answer ≡ slice_set thread.holds l.0 (record (hold_of thread l) { reads = n }) → call_of thread ≡ Some call
+        → Leaves thread (With thread phase answer) l (hold_of thread l).owns
+    reads phase call answer n = writes_hold s t l room phase call answer (record (hold_of thread l) { reads = n })
+
+    -- the last reader is still to wake the writer
+    out : (last told : Bool) → call_of thread ≡ Some (calls.Unread l) → thread.phase ≡ phases.Start
+        → Leaves thread (answered_with (record thread { phase = cond last phases.WakeWriter thread.phase }) (cond told None (Some replies.Done))) l (hold_of thread l).owns
+    out last false calling start = reads (cond last phases.WakeWriter thread.phase) (calls.Unread l) replies.Done ((hold_of thread l).reads - 1) refl calling
+    out true true calling start = same_holds thread (record thread { phase = phases.WakeWriter }) l refl refl
+    out false true calling start = same_holds thread thread l (ap has_inner start) refl
+
+    by_kind : IsReading s t l e → Steps s t l e
+    by_kind (is_read is unheld can) = stays _ _ _ is refl refl (reads (phase_after_rin thread.phase) (calls.Read l) replies.Got ((hold_of thread l).reads + 1) refl is.at.calling)
+    by_kind (is_tryread is set) = stays _ _ _ is refl refl (reads (phase_after_rin thread.phase) (calls.TryRead l) replies.Got ((hold_of thread l).reads + 1) refl is.at.calling)
+    by_kind (is_shut is unheld cannot) = stays_same _ _ _ is refl refl (ap (λ (c : Option Call). has_inner (phase_after_busy c thread.phase)) is.at.calling) refl
+    by_kind (is_tryshut is off) = stays_same _ _ _ is refl refl refl (holds_at (record thread { phase = phase_after_busy (call_of thread) thread.phase }) (calls.TryRead l) replies.Busy is.at.calling)
+    by_kind (is_out is held) = stays _ _ _ is refl refl (out _ _ is.at.calling is.at.phased)
+    by_kind (is_wwake is) = stays _ _ _ is refl refl (reads thread.phase (calls.Unread l) replies.Done ((hold_of thread l).reads - 1) refl is.at.calling)
+    by_kind (is_let_in is) = goes _ phases.Release _ _ is refl refl refl refl (ap (λ (p : Phase). record thread { phase = phase_after_rin p }) is.at.phased)
+    by_kind (is_unbias call writes is) = goes _ phases.WTry _ _ is refl refl (writes-holds (λ c. called_lock thread.cpu c ≡ Some l) call l writes refl refl) refl refl
+    by_kind (is_sleep is cannot) = goes _ phases.WWait _ _ is refl refl refl refl refl
+    by_kind (is_sleep_again is runs cannot) = goes _ phases.WWait _ _ is refl refl refl refl refl
+    by_kind (is_given_up is cannot) = goes _ phases.Release _ _ is refl refl refl refl refl
+    by_kind (is_in call writes is can) = gets _ _ _ is refl writes refl
+    by_kind (is_in_late is runs can) = gets _ _ _ is refl (writes_by refl) refl
+    by_kind (is_opened is held) = opens _ _ is held refl refl refl
+    by_kind (is_downgraded is held) = opens _ _ is held refl refl refl
+
+-- a writer owns the inner lock
+pub writer-owned : (s : State) (made : ℕ) (t : TaskId) (l : LockId) (e : Event) → IsLawful s made → IsReading s t l e → is_writers e.kind ≡ true → owned_by (owner_part s l).owner t ≡ true
+writer-owned s made t l e lawful reading its = let is = steps s made t l e lawful reading in sym is.was ∙ is.writers its
 
 -- ---- the law
 
 module _ (s : State) (made : ℕ) (e x : Event) (lawful : IsLawful s made) (is : e ≡ x) (there : x.task.0 < length s.threads) where
-  -- an event that changes neither its thread's holds nor any owner
-  keep_owners : (thread_after (shared s) (thread_part s x.task) x).holds ≡ (thread_part s x.task).holds → changes_owner x.kind ≡ false → OwnersLaw (state_after s e)
-  keep_owners holds keeps m u =
-      thread-made (λ v th. (hold_of th m).owns ≡ owned_by (owner_part (state_after s e) m).owner v) s e x u is there
-      (ap (λ (hs : List Hold). (hold_of (record (thread_part s x.task) { holds = hs }) m).owns) holds ∙ was x.task) (λ other. was u)
-    where
-      was : (v : TaskId) → (hold_of (thread_part s v) m).owns ≡ owned_by (owner_part (state_after s e) m).owner v
-      was v = lawful.owners m v ∙ sym (ap (λ (o : Option TaskId). owned_by o v) (owners-kept s e x m is keeps))
+  abbrev before : ThreadPart
+  before = thread_part s x.task
 
-  -- an event that gives its task a lock that nobody owns, or frees one that it owns
-  change_owner : (l : LockId) (o : Option TaskId) → (touched x.kind x).lock ≡ Some l → l.0 < length s.locks
-      → (thread_after (shared s) (thread_part s x.task) x).holds ≡ with_hold (thread_part s x.task) l (owned_by o x.task) → ((effect_in (shared s) (thread_part s x.task) x).lock (owner_part s l)).owner ≡ o
-      → ((u : TaskId) → nat_eq x.task.0 u.0 ≡ false → (owned_by o u ≡ false) × (owned_by (owner_part s l).owner u ≡ false)) → OwnersLaw (state_after s e)
-  change_owner l o named lt holds gives others m u =
-      thread-made (λ v th. (hold_of th m).owns ≡ owned_by (owner_part (state_after s e) m).owner v) s e x u is there
-      (ap (λ (hs : List Hold). (hold_of (record (thread_part s x.task) { holds = hs }) m).owns) holds ∙ (read-with_hold (thread_part s x.task) l m (owned_by o x.task) (holds_room s x.task l lawful.shape there lt)
-      ∙ (ap (λ (b : Bool). cond (nat_eq l.0 m.0) (owned_by o x.task) b) (lawful.owners m x.task) ∙ sym (owned x.task))))
-      (λ other. lawful.owners m u
-      ∙ sym (owned u ∙ (ap (λ (b : Bool). cond (nat_eq l.0 m.0) b (owned_by (owner_part s m).owner u)) (others u other).0 ∙ not_others s l m (nat_eq l.0 m.0) u refl (others u other).1)))
-    where
-      given : (owner_part (state_after s e) m).owner ≡ cond (nat_eq l.0 m.0) o (owner_part s m).owner
-      given = lock-made (Gives s l o) s e x l m is named lt (gives ∙ gives_here s l o) (gives_there s l m o)
+  abbrev left : ThreadPart
+  left = thread_after (shared s) before x
 
-      owned : (v : TaskId) → owned_by (owner_part (state_after s e) m).owner v ≡ cond (nat_eq l.0 m.0) (owned_by o v) (owned_by (owner_part s m).owner v)
-      owned v = ap (λ (p : Option TaskId). owned_by p v) given ∙ owned_either (nat_eq l.0 m.0) o (owner_part s m).owner v
+  -- the event's thread stands with the owner after it, and of no other task it changes who it owns
+  after_owners : ((m : LockId) → Stands left m (owned_by (owner_part (state_after s e) m).owner x.task))
+      → ((m : LockId) (u : TaskId) → nat_eq x.task.0 u.0 ≡ false → owned_by (owner_part (state_after s e) m).owner u ≡ owned_by (owner_part s m).owner u) → OwnersLaw (state_after s e)
+  after_owners own others = record { owned = λ m u. (each m u).owned; inside = λ m u. (each m u).inside }
+    where
+      each : (m : LockId) (u : TaskId) → Stands (thread_part (state_after s e) u) m (owned_by (owner_part (state_after s e) m).owner u)
+      each m u =
+          thread-made (λ v th. Stands th m (owned_by (owner_part (state_after s e) m).owner v)) s e x u is there (own m)
+          (λ other. record { owned = lawful.owners.owned m u ∙ sym (others m u other); inside = lawful.owners.inside m u })
+
+  -- no owner changes
+  keeps : changes_owner x.kind ≡ false → ((m : LockId) → Stands left m (owned_by (owner_part s m).owner x.task)) → OwnersLaw (state_after s e)
+  keeps kept own =
+      let same = λ (m : LockId). owners-kept s e x m is kept in
+      after_owners (λ m. subst (λ (o : Option TaskId). Stands left m (owned_by o x.task)) (sym (same m)) (own m)) (λ m u other. ap (λ (o : Option TaskId). owned_by o u) (same m))
+
+  -- nor what a thread holds, that goes through no inner lock
+  keeps_holds : has_inner before.phase ≡ false → has_inner left.phase ≡ false → left.holds ≡ before.holds → changes_owner x.kind ≡ false → OwnersLaw (state_after s e)
+  keeps_holds was out holds kept = keeps kept (λ m. unchanged before left m out holds _ (sym (outside-owns before m was) ∙ lawful.owners.owned m x.task))
+
+  -- a thread whose call is on lock l owns every other lock that it holds, and not for reading
+  elsewhere : (l m : LockId) → present_lock before ≡ Some l → nat_eq l.0 m.0 ≡ false → (hold_of before m).owns ≡ owned_by (owner_part s m).owner x.task
+  elsewhere l m present ne =
+      sym (apart-owns before m (ap (λ (o : Option LockId). has_inner before.phase && is_on o m) present ∙ and_right (has_inner before.phase) (nat_eq l.0 m.0) ne)) ∙ lawful.owners.owned m x.task
+
+  -- it has its lock's owner part as it had it
+  keeps_owner : (l : LockId) (owns : Bool) → present_lock before ≡ Some l → owns ≡ owned_by (owner_part s l).owner x.task → Leaves before left l owns → changes_owner x.kind ≡ false → OwnersLaw (state_after s e)
+  keeps_owner l owns present was leaves kept =
+      keeps kept (λ m. at_each_lock (λ k. Stands left k (owned_by (owner_part s k).owner x.task)) l m (subst (Stands left l) was leaves.here) (λ ne. subst (Stands left m) (elsewhere l m present ne) (leaves.there m ne)))
+
+  -- or the lock gets another owner, which only changes whether the event's task owns it
+  changes_to : (l : LockId) (o : Option TaskId) → present_lock before ≡ Some l → l.0 < length s.locks → (touched x.kind x).lock ≡ Some l → ((effect_in (shared s) before x).lock (owner_part s l)).owner ≡ o
+      → Leaves before left l (owned_by o x.task) → ((u : TaskId) → nat_eq x.task.0 u.0 ≡ false → owned_by o u ≡ owned_by (owner_part s l).owner u) → OwnersLaw (state_after s e)
+  changes_to l o present lt named gives leaves others =
+      after_owners
+      (λ m. lock-made (λ k lock. Stands left k (owned_by lock.owner x.task)) s e x l m is named lt (subst (λ (p : Option TaskId). Stands left l (owned_by p x.task)) (sym gives) leaves.here)
+      (λ ne. subst (Stands left m) (elsewhere l m present ne) (leaves.there m ne)))
+      (λ m u other. lock-made (λ k lock. owned_by lock.owner u ≡ owned_by (owner_part s k).owner u) s e x l m is named lt (ap (λ (p : Option TaskId). owned_by p u) gives ∙ others u other) (λ ne. refl))
 
 pub OwnersLaw-next : (s : State) (made : ℕ) (t : TaskId) (e : Event) → IsLawful s made → IsNext s t e → OwnersLaw (state_after s e)
 OwnersLaw-next s made t e lawful next = by_kind next
   where
-    nobodys_before : (l : LockId) → (owner_part s l).owner ≡ None → (u : TaskId) → nat_eq t.0 u.0 ≡ false → (nat_eq t.0 u.0 ≡ false) × (owned_by (owner_part s l).owner u ≡ false)
-    nobodys_before l none u other = (other, nobodys (owner_part s l).owner u none)
+    thread : ThreadPart
+    thread = thread_part s t
 
-    its_before : (l : LockId) → (hold_of (thread_part s t) l).owns ≡ true → (u : TaskId) → nat_eq t.0 u.0 ≡ false → (false ≡ false) × (owned_by (owner_part s l).owner u ≡ false)
-    its_before l held u other = (refl, one_owner (owner_part s l).owner t u (sym (lawful.owners l t) ∙ held) other)
+    -- in a phase in which it has no inner lock
+    idle : (phase : Phase) (call : Call) → IsIn s t phase call → has_inner phase ≡ false → has_inner thread.phase ≡ false
+    idle phase call at is = ap has_inner at.phased ∙ is
 
-    taken : (l : LockId) → IsAcquiring s t l → holds_after (thread_part s t) (call_of (thread_part s t)) replies.Got ≡ with_hold (thread_part s t) l (owned_by (Some t) t)
-    taken l acquiring = got-holds s t l acquiring ∙ ap (with_hold (thread_part s t) l) (sym (number_itself t.0))
-
-    -- who tries, and doesn't get the lock, holds what it held
-    busy-holds : (l : LockId) → Tries s t l → holds_after (thread_part s t) (call_of (thread_part s t)) replies.Busy ≡ (thread_part s t).holds
-    busy-holds l at = holds_at (thread_part s t) at.call replies.Busy at.at.calling ∙ tries-holds (λ c. holds_after (thread_part s t) (Some c) replies.Busy ≡ (thread_part s t).holds) at.call l at.tries_for refl refl
-
-    -- and who releases it doesn't hold it any more
-    done-holds : (l : LockId) → Returns s t l → holds_after (thread_part s t) (call_of (thread_part s t)) replies.Done ≡ with_hold (thread_part s t) l false
-    done-holds l at =
-        holds_at (thread_part s t) at.call replies.Done at.at.calling ∙ releases-holds (λ c. holds_after (thread_part s t) (Some c) replies.Done ≡ with_hold (thread_part s t) l false) at.call l at.releases refl refl
-
-    left-keeps : (l : LockId) (is : IsLeft s t l e) → changes_owner (left_kind is) ≡ false
-    left-keeps l (by_leave is) = refl
-    left-keeps l (by_cycle path o m rest is round owned) = refl
+    left-keeps : (l : LockId) (is : IsLeft s t l e) → (changes_owner (left_kind is) ≡ false) × (has_inner (left_phase is) ≡ false)
+    left-keeps l (by_leave is) = (refl, refl)
+    left-keeps l (by_cycle path o m rest is round owned) = (refl, refl)
 
     -- a walk, whose thread is left so
-    walked : (x : Event) (u : TaskId) (route onward : Route) (owner : Option TaskId) (task : TaskPart) → e ≡ x → x.task.0 < length s.threads
+    walked : (x : Event) (u : TaskId) (route onward : Route) (owner : Option TaskId) (task : TaskPart) → e ≡ x → x.task.0 < length s.threads → has_inner (thread_part s x.task).phase ≡ false
         → thread_after (shared s) (thread_part s x.task) x ≡ walked_thread (thread_part s x.task) route (goes_on t onward owner task) → SameSort route onward → IsPhaseOf (phases.Walk u route) (call_of (thread_part s x.task))
         → changes_owner x.kind ≡ false → OwnersLaw (state_after s e)
-    walked x u route onward owner task is lt left sort fits = keep_owners s made e x lawful is lt (ap (λ (th : ThreadPart). th.holds) left ∙ walk_holds (thread_part s x.task) t u route onward owner task sort fits)
+    walked x u route onward owner task is lt out left sort fits =
+        keeps_holds s made e x lawful is lt out
+        (ap (λ (th : ThreadPart). has_inner th.phase) left
+        ∙ walked-holds (λ r th. has_inner th.phase ≡ false) (thread_part s x.task) t route onward owner task sort (λ path. refl) (λ path rest. refl) (λ path rest o. refl) (λ answer. refl) (λ answer o. refl))
+        (ap (λ (th : ThreadPart). th.holds) left ∙ walk_holds (thread_part s x.task) t u route onward owner task sort fits)
 
     -- one that leaves a queue
     leaves : (l : LockId) → IsLeft s t l e → OwnersLaw (state_after s e)
     leaves l is =
-        walked (left_made s t l e is) t (Short (left_answer is)) (Short (left_answer is)) (owner_part s l).owner _ (left-is s t l e is) (left-there s made t l e lawful is) (left-thread s made t l e lawful is)
-        (SameSort-itself (Short (left_answer is))) (left-fits s made t l e lawful is t) (left-keeps l is)
+        let asks = left-asks s made t l e lawful is in
+        walked (left_made s t l e is) t (Short (left_answer is)) (Short (left_answer is)) (owner_part s l).owner _ (left-is s t l e is) (left-there s made t l e lawful is)
+        (idle (left_phase is) asks.call asks.at (left-keeps l is).1) (left-thread s made t l e lawful is) (SameSort-itself (Short (left_answer is))) (left-fits s made t l e lawful is t) (left-keeps l is).0
+
+    -- who asks for a lock is inside none
+    asks-out : (l : LockId) → AsksBy s t l → has_inner thread.phase ≡ false
+    asks-out l (from_start asks unheld) = idle phases.Start asks.call asks.at refl
+    asks-out l (from_reading asks) = idle phases.Inner asks.call asks.at refl
+
+    waits-out : (l : LockId) (owner : Option TaskId) (blocked : Bool) → has_inner (phase_after_wait t (Some l) owner blocked) ≡ false
+    waits-out l None blocked = refl
+    waits-out l (Some o) true = refl
+    waits-out l (Some o) false = refl
+
+    -- who tries, and doesn't get the lock, holds what it held
+    busy-holds : (l : LockId) → Tries s t l → holds_after thread (call_of thread) replies.Busy ≡ thread.holds
+    busy-holds l at = holds_at thread at.call replies.Busy at.at.calling ∙ tries-holds (λ c. holds_after thread (Some c) replies.Busy ≡ thread.holds) at.call l at.tries_for refl refl refl
+
+    -- one that gets a lock has its owner part, and nobody had it
+    acquiring-about : (l : LockId) → IsAcquiring s t l → present_lock thread ≡ Some l
+    acquiring-about l is = about thread is.call is.calling ∙ acquiring-holds (λ c. called_lock thread.cpu c ≡ Some l) is.call l is.acquires refl refl refl refl refl refl refl refl
+
+    gets : (l : LockId) → t.0 < length s.threads → l.0 < length s.locks → IsAcquiring s t l → (owner_part s l).owner ≡ None → Leaves thread (Got thread (call_of thread)) l (owned_by (Some t) t)
+    gets l task lock is none =
+        let unheld = (or_parts (hold_of thread l).owns (is_inside thread l) (lawful.owners.owned l t ∙ nobodys (owner_part s l).owner t none)).0 in
+        subst (Leaves thread (Got thread (call_of thread)) l) (sym (number_itself t.0)) (acquired s t l (holds_room s t l lawful.shape task lock) is unheld)
+
+    nobodys_before : (l : LockId) → (owner_part s l).owner ≡ None → (u : TaskId) → nat_eq t.0 u.0 ≡ false → nat_eq t.0 u.0 ≡ owned_by (owner_part s l).owner u
+    nobodys_before l none u other = other ∙ sym (nobodys (owner_part s l).owner u none)
+
+    -- one that releases it had that
+    returns-about : (l : LockId) (call : Call) → ReturnsBy s t l call → called_lock thread.cpu call ≡ Some l
+    returns-about l call (from_hold releases at held) = releases-holds (λ c. called_lock thread.cpu c ≡ Some l) call l releases refl refl
+    returns-about l call (from_inside ends at) = ends-holds (λ c. called_lock thread.cpu c ≡ Some l) call l ends refl refl refl refl
+
+    frees : (l : LockId) → Returns s t l → Leaves thread (answered_with thread (Some (released_answer (call_of thread)))) l false
+    frees l at = released s t l (holds_room s t l lawful.shape at.task at.lock) lawful.owners at
+
+    freed-about : (l : LockId) → Returns s t l → present_lock thread ≡ Some l
+    freed-about l at = about thread at.call at.calling ∙ returns-about l at.call at.by
+
+    its_before : (l : LockId) → Returns s t l → (u : TaskId) → nat_eq t.0 u.0 ≡ false → false ≡ owned_by (owner_part s l).owner u
+    its_before l at u other = sym (one_owner (owner_part s l).owner t u (returns-owned s t l lawful.owners at) other)
 
     by_kind : IsNext s t e → OwnersLaw (state_after s e)
-    by_kind (by_own call answer is) =
-        keep_owners s made e _ lawful is.event is.at.task
-        (holds_at (thread_part s t) call answer is.at.calling ∙ refused_holds (length s.threads) (length s.locks) (thread_part s t) call answer _ _ _ _ is.at.served is.why) refl
-    by_kind (by_acquire l (is_mark is)) = keep_owners s made e _ lawful is.event is.at.at.task refl refl
-    by_kind (by_acquire l (is_busy is)) = keep_owners s made e _ lawful is.event is.at.at.task (busy-holds l is.at) refl
-    by_kind (by_wait l (is_wait is)) = keep_owners s made e _ lawful is.event is.at.at.task refl refl
-    by_kind (by_wait l (is_again is)) = keep_owners s made e _ lawful is.event is.at.at.task refl refl
+    by_kind (by_own call answer is) = keeps_holds s made e _ lawful is.event is.at.task (idle _ _ is.at refl) refl (holds_at thread call answer is.at.calling ∙ refused_holds thread call answer (own-refuses s t call answer e is)) refl
+    by_kind (by_acquire l (is_mark is)) = keeps_holds s made e _ lawful is.event is.task (asks-out l is.how) refl refl refl
+    by_kind (by_acquire l (is_busy is)) = keeps_holds s made e _ lawful is.event is.at.at.task (idle _ _ is.at.at refl) refl (busy-holds l is.at) refl
+    by_kind (by_wait l (is_wait is)) = keeps_holds s made e _ lawful is.event is.at.at.task (idle _ _ is.at.at refl) (waits-out l (owner_part s l).owner _) refl refl
+    by_kind (by_wait l (is_again is)) = keeps_holds s made e _ lawful is.event is.at.at.task (idle _ _ is.at.at refl) (idle _ _ is.at.at refl) refl refl
     by_kind (by_wait l (is_leave is)) = leaves l (leave-left s t l e is)
     by_kind (by_confirm l path (is_cycle is)) = leaves l (cycle-left s made t l path e lawful is)
-    by_kind (by_confirm l path (is_restart link is)) = keep_owners s made e _ lawful is.event is.at.at.task refl refl
-    by_kind (by_wakeup (is_state state is)) = keep_owners s made e _ lawful is.event is.at.task (holds_at (thread_part s t) (calls.State state) replies.Done is.at.calling) refl
-    by_kind (by_wakeup (is_sched is)) = keep_owners s made e _ lawful is.event is.at.task (holds_at (thread_part s t) calls.Schedule replies.Done is.at.calling) refl
-    by_kind (by_wakeup (is_wake u is)) = keep_owners s made e _ lawful is.event is.at.task (holds_at (thread_part s t) (calls.Wake u) (wake_answer (task_part s u)) is.at.calling) refl
-    by_kind (by_wakeup (is_signal u is)) = keep_owners s made e _ lawful is.event is.at.task (holds_at (thread_part s t) (calls.Signal u) (signal_answer (task_part s u)) is.at.calling) refl
-    by_kind (by_acquire l (is_fast is)) = change_owner s made e _ lawful is.event is.task l (Some t) refl is.lock (taken l (fast-acquiring s t l is.how)) refl (nobodys_before l is.owner)
-    by_kind (by_acquire l (is_take is)) =
-        change_owner s made e _ lawful is.event is.task l (Some t) refl is.lock (taken l (take-acquiring s t l is.how)) refl (nobodys_before l (unowned-can_take t (kind_of (thread_part s t) l) (owner_part s l) (task_part s t) is.can))
-    by_kind (by_release l (is_free is)) = change_owner s made e _ lawful is.event is.at.at.task l None refl is.at.lock (done-holds l is.at) refl (its_before l is.held)
-    by_kind (by_release l (is_give is)) = change_owner s made e _ lawful is.event is.at.at.task l None refl is.at.lock (done-holds l is.at) refl (its_before l is.held)
+    by_kind (by_confirm l path (is_restart link is)) = keeps_holds s made e _ lawful is.event is.at.at.task (idle _ _ is.at.at refl) refl refl refl
+    by_kind (by_wakeup (is_state state is)) = keeps_holds s made e _ lawful is.event is.at.task (idle _ _ is.at refl) refl (holds_at thread (calls.State state) replies.Done is.at.calling) refl
+    by_kind (by_wakeup (is_sched is)) = keeps_holds s made e _ lawful is.event is.at.task (idle _ _ is.at refl) refl (holds_at thread calls.Schedule replies.Done is.at.calling) refl
+    by_kind (by_wakeup (is_wake u is)) = keeps_holds s made e _ lawful is.event is.at.task (idle _ _ is.at refl) refl (holds_at thread (calls.Wake u) (wake_answer (task_part s u)) is.at.calling) refl
+    by_kind (by_wakeup (is_signal u is)) = keeps_holds s made e _ lawful is.event is.at.task (idle _ _ is.at refl) refl (holds_at thread (calls.Signal u) (signal_answer (task_part s u)) is.at.calling) refl
     by_kind (by_walk route u (is_walk l key is)) =
-        walked _ u route (followed u l route) (owner_part s l).owner _ is.event is.task (link-thread s made t route u l key e lawful is) (SameSort-followed u l route) (walk-fits s t route u lawful.phases is.how) refl
+        walked _ u route (followed u l route) (owner_part s l).owner _ is.event is.task (ap has_inner (walk-phase s t route u is.how)) (link-thread s made t route u l key e lawful is) (SameSort-followed u l route)
+        (walk-fits s t route u lawful.phases is.how) refl
     by_kind (by_walk route u (is_walkend is)) =
-        walked _ u route route None (task_part s u) is.event is.task (end-thread s t route u e is) (SameSort-itself route) (walk-fits s t route u lawful.phases is.how) refl
+        walked _ u route route None (task_part s u) is.event is.task (ap has_inner (walk-phase s t route u is.how)) (end-thread s t route u e is) (SameSort-itself route) (walk-fits s t route u lawful.phases is.how) refl
     by_kind (by_setprio u prio is) =
-        walked _ u (Short replies.Done) (Short replies.Done) (Some u) (with_own prio (task_part s u)) is.event is.at.task (setprio-thread s made t u prio e lawful is) (SameSort-itself (Short replies.Done)) (setprio-fits s t u prio is.at) refl
+        walked _ u (Short replies.Done) (Short replies.Done) (Some u) (with_own prio (task_part s u)) is.event is.at.task (idle _ _ is.at refl) (setprio-thread s made t u prio e lawful is)
+        (SameSort-itself (Short replies.Done)) (setprio-fits s t u prio is.at) refl
+    by_kind (by_reading l is) =
+        let at = reading-in s t l e is in
+        let same : t ≡ e.task = sym (reading-task s t l e is) in
+        let step : Steps s e.task l e = subst (λ (v : TaskId). Steps s v l e) same (steps s made t l e lawful is) in
+        keeps_owner s made e e lawful refl (subst (λ (v : TaskId). v.0 < length s.threads) same at.at.task) l step.owns
+        (subst (λ (v : TaskId). present_lock (thread_part s v) ≡ Some l) same (present-at s t at.phase at.call (Some l) at.at (at.about thread.cpu))) step.was step.leaves
+        (reading-kind (λ kind. changes_owner kind ≡ false) s t l e is (record { rin = refl; busy = refl; rout = refl; wwake = refl; unbias = refl; wtake = refl; wsleep = refl; wopen = refl }))
+    by_kind (by_acquire l (is_fast is)) =
+        let how = fast-acquiring s t l is.how in
+        changes_to s made e _ lawful is.event is.task l (Some t) (acquiring-about l how) is.lock refl refl (gets l is.task is.lock how is.owner) (nobodys_before l is.owner)
+    by_kind (by_acquire l (is_take is)) =
+        let how = take-acquiring s t l is.how in
+        let none = unowned-can_take t (kind_of thread l) (owner_part s l) (task_part s t) is.can in
+        changes_to s made e _ lawful is.event is.task l (Some t) (acquiring-about l how) is.lock refl refl (gets l is.task is.lock how none) (nobodys_before l none)
+    by_kind (by_release l (is_free is)) = changes_to s made e _ lawful is.event is.at.task l None (freed-about l is.at) is.at.lock refl refl (frees l is.at) (its_before l is.at)
+    by_kind (by_release l (is_give is)) = changes_to s made e _ lawful is.event is.at.task l None (freed-about l is.at) is.at.lock refl refl (frees l is.at) (its_before l is.at)

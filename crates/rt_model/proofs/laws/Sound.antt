@@ -10,9 +10,9 @@ use Rattle.rt_model.specs.Run.{after, IsRun}
 use Rattle.rt_model.specs.Stage.{IsPlayable}
 use Rattle.rt_model.specs.laws.Sound.{IsSound}
 use Rattle.rt_model.proofs.Lists.{All-read, All-made}
-use Rattle.rt_model.proofs.Starts.{IsLawful-start, owner-start}
+use Rattle.rt_model.proofs.Starts.{IsLawful-start}
 use Rattle.rt_model.proofs.Prefixes.{lawful-there}
-use Rattle.rt_model.proofs.laws.Holders.{holders-law}
+use Rattle.rt_model.proofs.laws.Holders.{holders-law, held-start}
 use Rattle.rt_model.proofs.laws.Deadlocks.{deadlocks-law}
 use Rattle.rt_model.proofs.laws.Interrupts.{interrupts-law}
 use Rattle.rt_model.proofs.laws.Cycles.{cycles-law}
@@ -31,9 +31,9 @@ pub sound : (script : Script) (events : List Event) → IsScript script → IsPl
 sound script events valid playable run =
     let lawful = IsLawful-start script valid playable in
     record {
-      holders = holders-law (start script) 0 events lawful run (owner-start script);
+      holders = holders-law (start script) 0 events lawful run (held-start script);
       priorities = λ prefix rest is. priority-law (after (start script) prefix) _ (lawful-there (start script) 0 events lawful run prefix rest is);
-      deadlocks = deadlocks-law (start script) 0 events lawful run (owner-start script) (idle-start script);
+      deadlocks = deadlocks-law (start script) 0 events lawful run (held-start script) (idle-start script);
       interrupts = interrupts-law (start script) 0 events lawful run (idle-start script);
       cycles = cycles-law (start script) 0 events lawful run;
       wakeups = wakeups-law script events lawful run;

@@ -1,5 +1,5 @@
 -- Readers law.
-use Rattle.std.specs.Prelude.{◌≡◌, ℕ, ◌+◌, ◌-◌, ◌≤◌, Bool, true, false, not, ◌&&◌, ◌||◌, List, map, sum, Option, Some, None, if◌then◌else◌}
+use Rattle.std.specs.Prelude.{◌≡◌, ℕ, ◌+◌, ◌-◌, ◌≤◌, Bool, true, false, not, ◌&&◌, ◌||◌, List, length, map, sum, Option, Some, None, if◌then◌else◌}
 use Rattle.rt_base.specs.declared.call.Call.{Call}
 use Rattle.rt_base.specs.declared.call.Call.TheVariants.{Read, Downgrade}
 use Rattle.rt_base.specs.declared.id.LockId.{LockId}
@@ -64,7 +64,7 @@ all_readers threads l = sum (map (λ (thread : ThreadPart). readers_by thread l)
 
 -- the bias is off exactly where the lock's owner is a writer that has removed it, until it sets it again; the write flag is set
 -- exactly while it is in, with no reader beside it; the count is that of the threads' readers; who is to wake a writer has a read
--- hold of its lock, and no thread has more read holds of a lock than answers
+-- hold of its lock, and no thread has more read holds of a lock than answers, nor more answers than calls
 pub record ReadersLaw (s : State) : Type 0 where
   pub bias : (l : LockId) → (reader_part s l).bias ≡ not (of_owner (λ thread. is_closing thread l || is_writing thread l) s (owner_part s l).owner)
   pub writer : (l : LockId) → (reader_part s l).writer ≡ of_owner (λ thread. is_writing thread l) s (owner_part s l).owner
@@ -72,3 +72,4 @@ pub record ReadersLaw (s : State) : Type 0 where
   pub count : (l : LockId) → (reader_part s l).count ≡ all_readers s.threads l
   pub gone : (l : LockId) (t : TaskId) → going (thread_part s t) l ≤ (hold_of (thread_part s t) l).reads
   pub few : (l : LockId) (t : TaskId) → (hold_of (thread_part s t) l).reads ≤ (thread_part s t).answered
+  pub within : (t : TaskId) → (thread_part s t).answered ≤ length (thread_part s t).calls

@@ -13,10 +13,10 @@ use Rattle.rt_model.specs.laws.Priorities.{PriorityLaw}
 use Rattle.rt_model.specs.laws.Calls.{CallsLaw}
 use Rattle.rt_model.specs.laws.Rest.{RestLaw}
 
--- each lock has one holder at most, and it is the owner; in every state every priority is right; a deadlock answer has its
--- cause, and so has an interrupted one; no cycle is passed over; states, signals and what wakeups are answered are the flat
--- machine's; each task's calls are made once and in order; in every state that is at rest priorities are right over the whole graph,
--- and no cycle stands
+-- who owns, writes and reads each lock is told by the events, and no writer is beside another or a reader; in every state every
+-- priority is right; a deadlock answer has its cause, and so has an interrupted one; no cycle is passed over; states, signals and what
+-- wakeups are answered are the flat machine's; each task's calls are made once and in order; in every state that is at rest priorities
+-- are right over the whole graph, and no cycle stands
 pub record IsSound (script : Script) (events : List Event) : Type 0 where
   pub holders : HoldersLaw (start script) events
   pub priorities : (prefix rest : List Event) → prefix ++ rest ≡ events → PriorityLaw (after (start script) prefix)

@@ -1,7 +1,7 @@
 // The calls that call lines make.
 ghost use Rattle.std.specs.Prelude.{◌≡◌, IfOk};
 ghost use Rattle.rt_base.specs.Script.{IsCallOf};
-ghost use Rattle.rt_script.specs.CallForms.{form_map, IsSettable};
+ghost use Rattle.rt_script.specs.CallForms.{seen_form, IsSettable};
 ghost use Rattle.rt_script.specs.Calls.{reading_call, call_on, lock_call, call_in};
 ghost use Rattle.rt_script.specs.Results.{Gives};
 
@@ -17,7 +17,7 @@ impl Draft {
     /// The call that a form makes, its words from left to right.
     pub(super) fn call_in(&self, form: CallForm<&[u8]>) -> Result<Call, LineError>
         requires { IsSettable form }
-        ensures call { Gives (λ call. call) result (call_in self.now.script (form_map (λ word. word.now) form.entry)) }
+        ensures call { Gives (λ call. call) result (call_in self.now.script (seen_form form.entry)) }
         ensures fits { IfOk result (IsCallOf self.now.script) }
     {
         match form {

@@ -2,7 +2,7 @@
 ghost use Rattle.std.specs.Prelude.{◌≡◌};
 ghost use Rattle.std.specs.List.{list_all};
 ghost use Rattle.rt_script.specs.Lines.{after_cpus_line, after_task_line, after_lock_line, after_call_line, after_pick_line, after_words, begun_with, are_words, after_line};
-ghost use Rattle.rt_script.specs.Results.{Gives};
+ghost use Rattle.rt_script.specs.Results.{Leaves};
 ghost use Rattle.rt_script.specs.Words.{is_printable, is_passed_over};
 
 use super::Draft;
@@ -23,7 +23,7 @@ impl Draft {
     /// Reads a line between the header and `go`.
     #[tactic(auto, unfolding(crate::specs::Lines::after_line))]
     pub(crate) fn line(&mut self, alloc: Global, line: &[u8]) -> Result<(), LineError>
-        ensures { Gives (λ _. self.new) result (after_line self.old line.now) }
+        ensures { Leaves self.new result (after_line self.old line.now) }
     {
         if !are_printable(line) {
             return Err(LineError::Fault(Why::NotAscii));
@@ -39,7 +39,7 @@ impl Draft {
 
     /// Reads the words of a line.
     fn words(&mut self, alloc: Global, mut words: Pieces) -> Result<(), LineError>
-        ensures { Gives (λ _. self.new) result (begun_with (after_words self.old words.entry)) }
+        ensures { Leaves self.new result (begun_with (after_words self.old words.entry)) }
     {
         let Some(first) = words.next() else {
             return Err(LineError::Fault(Why::BadLine));
@@ -57,7 +57,7 @@ impl Draft {
     /// Reads the operands of a line of processors, before which no other line may come.
     #[tactic(auto, unfolding(crate::specs::Lines::after_cpus_line))]
     fn cpus(&mut self, operands: Pieces) -> Result<(), LineError>
-        ensures { Gives (λ _. self.new) result (begun_with (after_cpus_line self.old operands.entry)) }
+        ensures { Leaves self.new result (begun_with (after_cpus_line self.old operands.entry)) }
     {
         if self.begun {
             return Err(LineError::Fault(Why::BadLine));
@@ -71,7 +71,7 @@ impl Draft {
     /// Reads the operands of a task line.
     #[tactic(auto, unfolding(crate::specs::Lines::after_task_line))]
     fn task(&mut self, alloc: Global, operands: Pieces) -> Result<(), LineError>
-        ensures { Gives (λ _. self.new) result (begun_with (after_task_line self.old.script operands.entry)) }
+        ensures { Leaves self.new result (begun_with (after_task_line self.old.script operands.entry)) }
     {
         let (name, own, cpu) = operands.three()?;
         let name = self.new_name(alloc, name)?;
@@ -92,7 +92,7 @@ impl Draft {
     /// Reads the operands of a lock line.
     #[tactic(auto, unfolding(crate::specs::Lines::after_lock_line))]
     fn lock(&mut self, alloc: Global, operands: Pieces) -> Result<(), LineError>
-        ensures { Gives (λ _. self.new) result (begun_with (after_lock_line self.old.script operands.entry)) }
+        ensures { Leaves self.new result (begun_with (after_lock_line self.old.script operands.entry)) }
     {
         let (name, kind) = operands.two()?;
         let Some(kind) = kind_spelled(kind) else {
@@ -114,7 +114,7 @@ impl Draft {
     /// Reads the operands of a call line.
     #[tactic(auto, unfolding(crate::specs::Lines::after_call_line))]
     fn call(&mut self, mut operands: Pieces) -> Result<(), LineError>
-        ensures { Gives (λ _. self.new) result (begun_with (after_call_line self.old.script operands.entry)) }
+        ensures { Leaves self.new result (begun_with (after_call_line self.old.script operands.entry)) }
     {
         let Some(task) = operands.next() else {
             return Err(LineError::Fault(Why::BadLine));
@@ -135,7 +135,7 @@ impl Draft {
     /// Reads the operands of a pick line.
     #[tactic(auto, unfolding(crate::specs::Lines::after_pick_line))]
     fn pick(&mut self, operands: Pieces) -> Result<(), LineError>
-        ensures { Gives (λ _. self.new) result (begun_with (after_pick_line self.old.script operands.entry)) }
+        ensures { Leaves self.new result (begun_with (after_pick_line self.old.script operands.entry)) }
     {
         let task = operands.one()?;
         let t = self.task_named(task)?;

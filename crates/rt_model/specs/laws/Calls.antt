@@ -81,32 +81,37 @@ abbrev pub can_have_refusal : EventKind → Option Reply → Bool
 can_have_refusal kinds.Own (Some replies.NotOwner) = true
 can_have_refusal _ _ = false
 
--- a reader, one that tries, one that leaves, a writer that waits or tries, and one that leaves can have these at the reader part
+-- at the reader part a `read` can have these
 abbrev pub can_have_reading : EventKind → Option Reply → Bool
 can_have_reading kinds.RIn (Some replies.Got) = true
 can_have_reading kinds.Busy None = true
 can_have_reading kinds.RIn None = true
 can_have_reading _ _ = false
 
+-- a `tryread` these
 abbrev pub can_have_reading_once : EventKind → Option Reply → Bool
 can_have_reading_once kinds.RIn (Some replies.Got) = true
 can_have_reading_once _ _ = false
 
+-- an `unread` these
 abbrev pub can_have_unreading : EventKind → Option Reply → Bool
 can_have_unreading kinds.ROut None = true
 can_have_unreading kinds.ROut (Some replies.Done) = true
 can_have_unreading kinds.WWake (Some replies.Done) = true
 can_have_unreading _ _ = false
 
+-- a `write` and a `trywrite` these
 abbrev pub can_have_writing : EventKind → Option Reply → Bool
 can_have_writing kinds.Unbias None = true
 can_have_writing kinds.WTake (Some replies.Got) = true
 can_have_writing _ _ = false
 
+-- a `write` this besides
 abbrev pub can_have_sleeping : EventKind → Option Reply → Bool
 can_have_sleeping kinds.WSleep None = true
 can_have_sleeping _ _ = false
 
+-- and a writer that leaves, or gives up, this
 abbrev pub can_have_opening : EventKind → Option Reply → Bool
 can_have_opening kinds.WOpen None = true
 can_have_opening _ _ = false

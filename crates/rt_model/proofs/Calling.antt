@@ -1,5 +1,5 @@
 -- What a state says of a task that is at a call.
-use Rattle.std.proofs.Common.{◌≡◌, ◌⊎◌, inl, inr, ◌<◌, ◌≤◌, Bool, get_or, length, refl, sym, ap, ◌∙◌, subst, Option, Some, None, All}
+use Rattle.std.proofs.Common.{◌≡◌, ◌⊎◌, inl, inr, ◌<◌, ◌≤◌, get_or, length, refl, sym, ap, ◌∙◌, subst, Option, Some, None, All}
 use Rattle.std.specs.Prelude.{true, slice_get, option_and_then}
 use Rattle.std.proofs.lemmas.Option.{slice_get_cases}
 use Rattle.rt_base.specs.declared.call.Call.{Call}
@@ -150,6 +150,9 @@ ends-holds P call l (of_trywrite is) read trywrite unwrite downgrade = subst P (
 ends-holds P call l (of_unwrite is) read trywrite unwrite downgrade = subst P (sym is) unwrite
 ends-holds P call l (of_downgrade is) read trywrite unwrite downgrade = subst P (sym is) downgrade
 
+pub ends-called : (cpu : Cpu) (call : Call) (l : LockId) → EndsInner call l → called_lock cpu call ≡ Some l
+ends-called cpu call l is = ends-holds (λ c. called_lock cpu c ≡ Some l) call l is refl refl refl refl
+
 -- how a task comes to release the lock: by a call that does so, of a lock that it holds, or at the end of one that had the inner lock
 pub data ReturnsBy (s : State) (t : TaskId) (l : LockId) (call : Call) : Type 0 where
   from_hold : Releases call l → IsIn s t phases.Start call → (hold_of (thread_part s t) l).owns ≡ true → ReturnsBy s t l call
@@ -163,6 +166,17 @@ pub record Returns (s : State) (t : TaskId) (l : LockId) : Type 0 where
   pub task : t.0 < length s.threads
   pub lock : l.0 < length s.locks
 
+-- what holds of the six calls holds of each that releases
+pub returning-holds : (P : Call → Type 0) (s : State) (t : TaskId) (l : LockId) (is : Returns s t l) → P (calls.Unlock l) → P (calls.Unspin l) → P (calls.Read l) → P (calls.TryWrite l) → P (calls.Unwrite l) → P (calls.Downgrade l) → P is.call
+returning-holds P s t l is unlock unspin read trywrite unwrite downgrade = by_how is.by
+  where
+    by_how : ReturnsBy s t l is.call → P is.call
+    by_how (from_hold releases at held) = releases-holds P is.call l releases unlock unspin
+    by_how (from_inside ends at) = ends-holds P is.call l ends read trywrite unwrite downgrade
+
+pub returning-called : (cpu : Cpu) (s : State) (t : TaskId) (l : LockId) (is : Returns s t l) → called_lock cpu is.call ≡ Some l
+returning-called cpu s t l is = returning-holds (λ c. called_lock cpu c ≡ Some l) s t l is refl refl refl refl refl refl
+
 -- ---- a task that reads or writes a reader/writer lock
 
 -- the call writes, and may only try
@@ -173,3 +187,6 @@ pub data Writes (call : Call) (l : LockId) : Type 0 where
 pub writes-holds : (P : Call → Type 0) (call : Call) (l : LockId) → Writes call l → P (calls.Write l) → P (calls.TryWrite l) → P call
 writes-holds P call l (writes_by is) write trywrite = subst P (sym is) write
 writes-holds P call l (tries_by is) write trywrite = subst P (sym is) trywrite
+
+pub writes-called : (cpu : Cpu) (call : Call) (l : LockId) → Writes call l → called_lock cpu call ≡ Some l
+writes-called cpu call l is = writes-holds (λ c. called_lock cpu c ≡ Some l) call l is refl refl

@@ -1,5 +1,5 @@
 -- What a thread's holds count together, where one of them is written.
-use Rattle.std.proofs.Common.{◌≡◌, ℕ, zero, suc, ◌+◌, ◌*◌, ◌<◌, ◌≤◌, List, [], ◌∷◌, length, replicate, refl, sym, ap, ◌∙◌, arith, Some, unwrap_or}
+use Rattle.std.proofs.Common.{◌≡◌, ℕ, zero, suc, ◌+◌, ◌<◌, List, [], ◌∷◌, length, replicate, refl, sym, ap, ◌∙◌, arith, Some, unwrap_or}
 use Rattle.std.specs.Prelude.{slice_get, slice_set}
 use Rattle.std.proofs.lemmas.Option.{slice_get-get_or, unwrap_or-slice_get}
 use Rattle.rt_base.specs.declared.kind.Kind.{Kind}
@@ -18,16 +18,6 @@ count-set count (k ∷ kinds) (h ∷ holds) zero kind hold left is_kind is_hold 
     let is : count k left ≡ count kind left = ap (λ (x : Kind). count x left) same_kind in
     omega (arith, was, is)
 count-set count (k ∷ kinds) (h ∷ holds) (suc i) kind hold left is_kind is_hold = let rest = count-set count kinds holds i kind hold left is_kind is_hold in omega (arith, rest)
-
--- holds that count so much each at most count no more than that for each lock
-pub count-most : (count : Kind → Hold → ℕ) (most : ℕ) (kinds : List Kind) (holds : List Hold) (none : Hold) → ((kind : Kind) (i : ℕ) → count kind (unwrap_or (slice_get holds i) none) ≤ most)
-    → count_holds count kinds holds ≤ length kinds * most
-count-most count most [] holds none few = omega arith
-count-most count most (kind ∷ kinds) [] none few = omega arith
-count-most count most (kind ∷ kinds) (hold ∷ holds) none few =
-    let first : count kind hold ≤ most = few kind 0 in
-    let rest : count_holds count kinds holds ≤ length kinds * most = count-most count most kinds holds none (λ k i. few k (suc i)) in
-    omega (arith, first, rest)
 
 -- holds that count nothing count nothing together
 pub count-none : (count : Kind → Hold → ℕ) (kinds : List Kind) (n : ℕ) (hold : Hold) → ((kind : Kind) → count kind hold ≡ 0) → count_holds count kinds (replicate n hold) ≡ 0

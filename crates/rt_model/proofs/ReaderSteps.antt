@@ -20,8 +20,8 @@ use Rattle.rt_model.specs.steps.Readers.{CanStep}
 use Rattle.rt_model.specs.laws.Lawful.{IsLawful}
 use Rattle.rt_model.specs.laws.Readers.{has_come, coming, going, readers_by}
 use Rattle.rt_model.specs.laws.Shape.{calls_of}
-use Rattle.rt_model.proofs.Counts.{sum-part, sum-less}
-use Rattle.rt_model.proofs.Calling.{IsIn, Writes, writes-holds}
+use Rattle.rt_model.proofs.Counts.{sum-less}
+use Rattle.rt_model.proofs.Calling.{IsIn, writes-called}
 use Rattle.rt_model.proofs.Looks.{Facts, off, out}
 use Rattle.rt_model.proofs.NextEvents.{IsNext, by_own, by_acquire, by_wait, by_release, by_reading, by_walk, by_confirm, by_wakeup, by_setprio}
 use Rattle.rt_model.proofs.events.Acquire.{is_fast, is_mark, is_take, is_busy}
@@ -74,12 +74,6 @@ fewer s made t l phase call lawful at not_yet =
         (readers-less l (thread_part s t) (lawful.readers.within t) (lawful.readers.few l t) call at.calling nobody) in
     omega (arith, all, lawful.readers.count l, lawful.shape.few_calls)
 
--- and no thread has more read holds of one
-pub reads-most : (s : State) (made : ℕ) (t : TaskId) (l : LockId) → IsLawful s made → (hold_of (thread_part s t) l).reads ≤ MAX_CALLS
-reads-most s made t l lawful =
-    let part : length (thread_part s t).calls ≤ calls_of s.threads = sum-part (λ (thread : ThreadPart). length thread.calls) s.threads t.0 no_thread refl in
-    omega (arith, part, lawful.readers.within t, lawful.readers.few l t, lawful.shape.few_calls)
-
 -- ---- what an event finds
 
 open_to : (writer : Bool) → writer ≡ false → not writer ≡ true
@@ -127,9 +121,6 @@ module _ (s : State) (made : ℕ) (t : TaskId) (e : Event) (lawful : IsLawful s 
       let in_it : (rw l && held l && true) ≡ true = is_writing_by (rw l) (held l) (reader_kind s made t lawful l (fit (fits s made t lawful call is.at.calling))) owns in
       (facts.bias has ∙ ap not in_it, facts.writer has ∙ in_it)
 
-  writes-call : (call : Call) (l : LockId) → Writes call l → called_lock (thread_part s t).cpu call ≡ Some l
-  writes-call call l writes = writes-holds (λ c. called_lock (thread_part s t).cpu c ≡ Some l) call l writes refl refl
-
   never : nat_eq 0 1 ≡ true → ⊥
   never is = cc
 
@@ -144,8 +135,8 @@ module _ (s : State) (made : ℕ) (t : TaskId) (e : Event) (lawful : IsLawful s 
       let one : 0 < (hold_of (thread_part s t) l).reads = grind (arith, nat_tests) in
       of_made l _ _ _ is (omega (arith, one, (facts-at l _ _ _ is refl).most))
   by_readers l (is_wwake is) = of_made l _ _ _ is tt
-  by_readers l (is_unbias call writes is) = of_made l _ _ _ is ((facts-at l _ _ _ is (writes-call call l writes)).bias (or_right (held l) true refl) ∙ ap not (out (rw l) (held l)))
-  by_readers l (is_in call writes is can) = let finds = unbiased-finds l _ _ _ is (writes-call call l writes) refl refl in of_made l _ _ _ is (finds.0, finds.1, can)
+  by_readers l (is_unbias call writes is) = of_made l _ _ _ is ((facts-at l _ _ _ is (writes-called (thread_part s t).cpu call l writes)).bias (or_right (held l) true refl) ∙ ap not (out (rw l) (held l)))
+  by_readers l (is_in call writes is can) = let finds = unbiased-finds l _ _ _ is (writes-called (thread_part s t).cpu call l writes) refl refl in of_made l _ _ _ is (finds.0, finds.1, can)
   by_readers l (is_in_late is runs can) = let finds = unbiased-finds l _ _ _ is refl refl refl in of_made l _ _ _ is (finds.0, finds.1, can)
   by_readers l (is_sleep is cannot) = of_made l _ _ _ is tt
   by_readers l (is_sleep_again is runs cannot) = of_made l _ _ _ is tt

@@ -1,12 +1,11 @@
 -- Readers and writers at the reader part: how their events come about, and that their choice reads only what they touch.
-use Rattle.std.proofs.Common.{◌≡◌, ℕ, ◌<◌, length, Bool, true, false, cond, not, refl, sym, ap, ◌∙◌, subst, Option, Some, None}
+use Rattle.std.proofs.Common.{◌≡◌, ◌<◌, length, Bool, true, false, cond, refl, sym, ap, ◌∙◌, subst, Option, Some, None}
 use Rattle.std.specs.Prelude.{nat_lt}
 use Rattle.rt_base.specs.declared.call.Call.{Call}
 use Rattle.rt_base.specs.declared.call.Call.TheVariants as calls
 use Rattle.rt_base.specs.declared.id.Cpu.{Cpu}
 use Rattle.rt_base.specs.declared.id.LockId.{LockId}
 use Rattle.rt_base.specs.declared.id.TaskId.{TaskId}
-use Rattle.rt_base.specs.declared.reply.Reply.{Reply}
 use Rattle.rt_base.specs.declared.reply.Reply.TheVariants.{Got, Busy}
 use Rattle.rt_base.specs.declared.state.TaskState.{TaskState}
 use Rattle.rt_base.specs.declared.state.TaskState.TheVariants as states
@@ -15,14 +14,14 @@ use Rattle.rt_model.specs.declared.obj.Obj.TheVariants as objects
 use Rattle.rt_model.specs.declared.phase.Phase.{Phase}
 use Rattle.rt_model.specs.declared.phase.Phase.TheVariants as phases
 use Rattle.rt_model.specs.declared.reader_cell.ReaderCell.{ReaderCell}
-use Rattle.rt_model.specs.Parts.{OwnerPart, TaskPart, ThreadPart, call_of, hold_of}
+use Rattle.rt_model.specs.Parts.{TaskPart, call_of, hold_of}
 use Rattle.rt_model.specs.State.{State, Shared, lock_in, readers_in, task_in, owner_part, reader_part, task_part, thread_part}
 use Rattle.rt_model.specs.Choice.{called_lock}
 use Rattle.rt_model.specs.Footprint.{touches}
-use Rattle.rt_model.specs.steps.Readers.{can_read, without_reader, wakes_writer, can_write}
+use Rattle.rt_model.specs.steps.Readers.{can_read, can_write}
 use Rattle.rt_model.specs.steps.Task.{runs}
 use Rattle.rt_model.specs.events.Readers.{rin_event, shut_event, read_event, tryread_event, rout_event, wwake_event, unbias_event, wtake_event, wsleep_event, wopen_event, held_up_event, writer_event, awake_writer_event, waiting_writer_event}
-use Rattle.rt_model.proofs.Calling.{IsIn, Writes, writes_by, tries_by, writes-holds}
+use Rattle.rt_model.proofs.Calling.{IsIn, Writes, writes_by, tries_by, writes-called}
 use Rattle.rt_model.proofs.Touching.{touches-lock, touches-readers, touches-own}
 use Rattle.rt_model.proofs.Alike.{Alike, GivesAlike}
 
@@ -116,9 +115,6 @@ pub record IsReadingIn (s : State) (t : TaskId) (l : LockId) : Type 0 where
 at_lock : (s : State) (t : TaskId) (l : LockId) (phase : Phase) (call : Call) (x e : Event) → IsMade s t l phase call x e → ((cpu : Cpu) → called_lock cpu call ≡ Some l) → IsReadingIn s t l
 at_lock s t l phase call x e is about = record { phase = phase; call = call; at = is.at; about = about; lock = is.lock }
 
-writes-about : (call : Call) (l : LockId) → Writes call l → (cpu : Cpu) → called_lock cpu call ≡ Some l
-writes-about call l is cpu = writes-holds (λ c. called_lock cpu c ≡ Some l) call l is refl refl
-
 pub reading-in : (s : State) (t : TaskId) (l : LockId) (e : Event) → IsReading s t l e → IsReadingIn s t l
 reading-in s t l e (is_read is unheld can) = at_lock s t l _ _ _ e is (λ cpu. refl)
 reading-in s t l e (is_tryread is set) = at_lock s t l _ _ _ e is (λ cpu. refl)
@@ -127,8 +123,8 @@ reading-in s t l e (is_shut is unheld cannot) = at_lock s t l _ _ _ e is (λ cpu
 reading-in s t l e (is_tryshut is off) = at_lock s t l _ _ _ e is (λ cpu. refl)
 reading-in s t l e (is_out is held) = at_lock s t l _ _ _ e is (λ cpu. refl)
 reading-in s t l e (is_wwake is) = at_lock s t l _ _ _ e is (λ cpu. refl)
-reading-in s t l e (is_unbias call writes is) = at_lock s t l _ _ _ e is (writes-about call l writes)
-reading-in s t l e (is_in call writes is can) = at_lock s t l _ _ _ e is (writes-about call l writes)
+reading-in s t l e (is_unbias call writes is) = at_lock s t l _ _ _ e is (λ cpu. writes-called cpu call l writes)
+reading-in s t l e (is_in call writes is can) = at_lock s t l _ _ _ e is (λ cpu. writes-called cpu call l writes)
 reading-in s t l e (is_sleep is cannot) = at_lock s t l _ _ _ e is (λ cpu. refl)
 reading-in s t l e (is_given_up is cannot) = at_lock s t l _ _ _ e is (λ cpu. refl)
 reading-in s t l e (is_in_late is runs can) = at_lock s t l _ _ _ e is (λ cpu. refl)

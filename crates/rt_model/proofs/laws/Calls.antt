@@ -38,12 +38,12 @@ use Rattle.rt_model.specs.laws.Shape.{IsOf}
 use Rattle.rt_model.specs.laws.Calls.{can_have_waiting, can_have_waking, can_have, called_task, called_number, NamesFor, IsOfCall, IsOfWalk, is_of_walk, then_make, makes_first, Make, events_of, answered_after, CallsLaw}
 use Rattle.rt_model.proofs.Lists.{All-default, read-map}
 use Rattle.rt_model.proofs.Numbers.{same_task}
-use Rattle.rt_model.proofs.Calling.{IsIn, WaitsFor, waits-holds, waits-called, Asks, tries-holds, ReturnsBy, from_hold, from_inside, Returns, releases-holds, ends-holds, writes-holds}
+use Rattle.rt_model.proofs.Calling.{returning-holds, returning-called, IsIn, WaitsFor, waits-holds, waits-called, Asks, tries-holds, writes-holds}
 use Rattle.rt_model.proofs.Leaves.{IsLeft, by_leave, by_cycle, left-is, leave-left, cycle-left}
 use Rattle.rt_model.proofs.NextEvents.{IsNext, by_own, by_acquire, by_wait, by_release, by_reading, by_walk, by_confirm, by_wakeup, by_setprio}
 use Rattle.rt_model.proofs.ToCome.{to_come-holds, answered-holds}
 use Rattle.rt_model.proofs.events.Own.{IsOwn, read-holds, write-holds}
-use Rattle.rt_model.proofs.events.Acquire.{IsBusy, is_fast, is_mark, is_take, is_busy, asking, IsAcquireOf, IsAcquiring, fast-acquiring, take-acquiring, acquiring-holds}
+use Rattle.rt_model.proofs.events.Acquire.{IsBusy, is_fast, is_mark, is_take, is_busy, asking, fast-acquiring, take-acquiring, acquiring-holds, acquiring-called}
 use Rattle.rt_model.proofs.events.Wait.{is_wait, is_again, is_leave}
 use Rattle.rt_model.proofs.events.Release.{is_free, is_give}
 use Rattle.rt_model.proofs.events.Readers.{IsMade, IsReading, is_read, is_tryread, is_let_in, is_shut, is_tryshut, is_out, is_wwake, is_unbias, is_in, is_sleep, is_given_up, is_in_late, is_sleep_again, is_opened, is_downgraded}
@@ -198,26 +198,11 @@ told_call : (s : State) (t : TaskId) (l : LockId) (call : Call) (answer : Option
 told_call s t l call answer e x calling about is reply can names =
     lock_call s t l call e x calling about is (subst (λ (r : Option Reply). can_have call x.kind r ≡ true) (sym (reply ∙ ap answer calling)) can) names
 
--- of a task that gets the lock
-acquiring-called : (cpu : Cpu) (call : Call) (l : LockId) → IsAcquireOf l call → called_lock cpu call ≡ Some l
-acquiring-called cpu call l is = acquiring-holds (λ c. called_lock cpu c ≡ Some l) call l is refl refl refl refl refl refl refl refl
-
--- of one that tries, and may not have it
+-- of a task that tries, and may not have the lock
 busy_call : (s : State) (t : TaskId) (l : LockId) (e : Event) → IsBusy s t l e → IsAtCall s t e
 busy_call s t l e is =
     in_call s t phases.Start is.at.call e _ is.at.at is.event (tries-holds (λ c. can_have c kinds.Busy (Some replies.Busy) ≡ true) is.at.call l is.at.tries_for refl refl refl)
     (tries-holds (λ c. NamesFor kinds.Busy (thread_part s t).cpu c (busy_event t l (owner_part s l))) is.at.call l is.at.tries_for (refl, refl, refl) (refl, refl, refl) (refl, refl, refl))
-
--- of one that releases it
-returning-holds : (P : Call → Type 0) (s : State) (t : TaskId) (l : LockId) (is : Returns s t l) → P (calls.Unlock l) → P (calls.Unspin l) → P (calls.Read l) → P (calls.TryWrite l) → P (calls.Unwrite l) → P (calls.Downgrade l) → P is.call
-returning-holds P s t l is unlock unspin read trywrite unwrite downgrade = by_how is.by
-  where
-    by_how : ReturnsBy s t l is.call → P is.call
-    by_how (from_hold releases at held) = releases-holds P is.call l releases unlock unspin
-    by_how (from_inside ends at) = ends-holds P is.call l ends read trywrite unwrite downgrade
-
-returning-called : (cpu : Cpu) (s : State) (t : TaskId) (l : LockId) (is : Returns s t l) → called_lock cpu is.call ≡ Some l
-returning-called cpu s t l is = returning-holds (λ c. called_lock cpu c ≡ Some l) s t l is refl refl refl refl refl refl
 
 -- of one that reads or writes
 made_call : (s : State) (t : TaskId) (l : LockId) (phase : Phase) (call : Call) (x e : Event) → IsMade s t l phase call x e → can_have call x.kind x.reply ≡ true → NamesFor x.kind (thread_part s t).cpu call x → IsAtCall s t e

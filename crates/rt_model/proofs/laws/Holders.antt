@@ -1,10 +1,9 @@
 -- What a run's events tell of who has a lock is so.
-use Rattle.std.proofs.Common.{◌≡◌, ℕ, suc, ◌+◌, ◌-◌, ◌<◌, Bool, true, false, cond, not, ◌&&◌, List, [], ◌∷◌, ◌++◌, length, refl, sym, ap, ◌∙◌, subst, Option, Some, None, IfSome, All, unwrap_or}
+use Rattle.std.proofs.Common.{◌≡◌, ℕ, suc, ◌+◌, ◌-◌, ◌<◌, Bool, true, false, cond, not, ◌&&◌, List, [], ◌∷◌, ◌++◌, length, refl, sym, ap, ◌∙◌, subst, Option, Some, None, IfSome, unwrap_or}
 use Rattle.std.specs.Prelude.{slice_get, nat_eq}
 use Rattle.std.specs.List.{fold}
 use Rattle.std.proofs.lemmas.Bool.{and_right, or_left, not-true}
 use Rattle.rt_base.specs.Script.{Script}
-use Rattle.rt_base.specs.declared.call.Call.{Call}
 use Rattle.rt_base.specs.declared.id.LockId.{LockId}
 use Rattle.rt_base.specs.declared.id.TaskId.{TaskId}
 use Rattle.rt_base.specs.declared.kind.Kind.{Kind}
@@ -14,25 +13,25 @@ use Rattle.rt_model.specs.declared.event_kind.EventKind.{EventKind}
 use Rattle.rt_model.specs.declared.event_kind.EventKind.TheVariants as kinds
 use Rattle.rt_model.specs.declared.phase.Phase.TheVariants as phases
 use Rattle.rt_model.specs.declared.reader_cell.ReaderCell.{ReaderCell}
-use Rattle.rt_model.specs.Parts.{OwnerPart, ThreadPart, call_of, hold_of, kind_of, has_readers}
+use Rattle.rt_model.specs.Parts.{OwnerPart, ThreadPart, hold_of, kind_of, has_readers}
 use Rattle.rt_model.specs.State.{State, shared, free_lock, no_readers, start, owner_part, reader_part, task_part, thread_part}
 use Rattle.rt_model.specs.Choice.{called_lock, is_on}
 use Rattle.rt_model.specs.Effect.{Around, around}
 use Rattle.rt_model.specs.Rules.{touched, effect}
-use Rattle.rt_model.specs.Stage.{IsForKind, IsStaged}
+use Rattle.rt_model.specs.Stage.{IsForKind}
 use Rattle.rt_model.specs.Run.{after, IsRun}
 use Rattle.rt_model.specs.StateAfter.{update, at_lock, state_after}
 use Rattle.rt_model.specs.steps.Readers.{CanStep, can_read, can_write, with_reader, without_reader, unbiased, with_writer, without_writer}
 use Rattle.rt_model.specs.steps.Lock.{taken_by, given_up}
 use Rattle.rt_model.specs.Path.{first_lock}
 use Rattle.rt_model.specs.laws.Lawful.{IsLawful}
-use Rattle.rt_model.specs.laws.Owners.{has_inner, is_inside}
+use Rattle.rt_model.specs.laws.Owners.{is_inside}
 use Rattle.rt_model.specs.laws.Shape.{IsWithin}
 use Rattle.rt_model.specs.laws.Readers.{is_writing, of_owner}
 use Rattle.rt_model.specs.laws.Holders.{Held, nobody, acquires, releases, held_after, holders_of, held_in, IsExclusive, HoldersLaw}
-use Rattle.rt_model.proofs.Calling.{at_call, Returns, ReturnsBy, from_hold, from_inside, releases-holds, ends-holds}
-use Rattle.rt_model.proofs.Inside.{inside-at, present-at, returns-owned}
-use Rattle.rt_model.proofs.Lists.{All-at, at_lock-none, read-replicate}
+use Rattle.rt_model.proofs.Calling.{Returns, ReturnsBy, from_hold, from_inside, releases-holds, ends-called}
+use Rattle.rt_model.proofs.Inside.{inside-its, returns-owned}
+use Rattle.rt_model.proofs.Lists.{at_lock-none, read-replicate}
 use Rattle.rt_model.proofs.NextEvents.{IsNext, by_own, by_acquire, by_wait, by_release, by_reading, by_walk, by_confirm, by_wakeup, by_setprio}
 use Rattle.rt_model.proofs.Owned.{changes_owner, owner-left}
 use Rattle.rt_model.proofs.Reading.{reading-kind, reading-lock}
@@ -41,9 +40,10 @@ use Rattle.rt_model.proofs.events.Wait.{is_wait, is_again, is_leave}
 use Rattle.rt_model.proofs.events.Release.{is_free, is_give}
 use Rattle.rt_model.proofs.events.Walk.{is_walk, is_walkend, is_restart, is_cycle}
 use Rattle.rt_model.proofs.events.Wakeups.{is_state, is_sched, is_wake, is_signal}
+use Rattle.rt_model.proofs.laws.Migration.{call-fits}
 use Rattle.rt_model.proofs.laws.Owners.{is_writers, writer-owned}
 use Rattle.rt_model.proofs.PartsAfter.{read-update, read-update_other, kept-at, changes_readers, readers-left}
-use Rattle.rt_model.proofs.Numbers.{number_itself, same_number, same_lock, owner-is}
+use Rattle.rt_model.proofs.Numbers.{same_number, same_lock, owner-is}
 use Rattle.rt_model.proofs.Queues.{unowned-can_take}
 use Rattle.rt_model.proofs.Named.{within}
 use Rattle.rt_model.proofs.Prefixes.{run-prefix, run-next, run-lawful, lawful-there, next-there}
@@ -162,12 +162,6 @@ changes-unwritten kinds.Free t owner writer finds changes = finds.1
 changes-unwritten kinds.Give t owner writer finds changes = finds.1
 changes-unwritten kind t owner writer finds changes = cc
 
--- a call is for its lock's kind
-fit_call : (s : State) (t : TaskId) (call : Call) → IsStaged s → call_of (thread_part s t) ≡ Some call → IsForKind (thread_part s t).kinds call
-fit_call s t call staged at =
-    let thread : ThreadPart = thread_part s t in
-    All-at (IsForKind thread.kinds) thread.calls thread.answered call (All-at (λ (th : ThreadPart). All (IsForKind th.kinds) th.calls) s.threads t.0 thread staged.fit (at_call s t call at).0) at
-
 -- a task that holds a lock, and not for reading, is its owner
 pub held-owned : (s : State) (made : ℕ) (t : TaskId) (l : LockId) → IsLawful s made → (hold_of (thread_part s t) l).owns ≡ true → (owner_part s l).owner ≡ Some t
 held-owned s made t l lawful held =
@@ -193,11 +187,10 @@ module _ (s : State) (made : ℕ) (t : TaskId) (e : Event) (lawful : IsLawful s 
       by_how : ReturnsBy s t l is.call → is_writing thread l ≡ false
       by_how (from_hold releases at held) =
           let other : has_readers (kind_of thread l) ≡ false = releases-holds (λ c. IsForKind thread.kinds c → has_readers (kind_of thread l) ≡ false) is.call l releases
-              (ap (λ (k : Option Kind). has_readers (unwrap_or k locks.Mutex))) (ap (λ (k : Option Kind). has_readers (unwrap_or k locks.Mutex))) (fit_call s t is.call lawful.stage is.calling) in
+              (ap (λ (k : Option Kind). has_readers (unwrap_or k locks.Mutex))) (ap (λ (k : Option Kind). has_readers (unwrap_or k locks.Mutex))) (call-fits s t is.call lawful.stage is.calling) in
           ap (λ (b : Bool). b && (hold_of thread l).owns && not (is_inside thread l)) other
       by_how (from_inside ends at) =
-          let lock = ends-holds (λ c. called_lock thread.cpu c ≡ Some l) is.call l ends refl refl refl refl in
-          let inside : is_inside thread l ≡ true = inside-at thread l l (ap has_inner at.phased) (present-at s t phases.Release is.call (Some l) at lock) ∙ number_itself l.0 in
+          let inside = inside-its s t l phases.Release is.call at refl (ends-called thread.cpu is.call l ends) in
           ap (λ (b : Bool). has_readers (kind_of thread l) && (hold_of thread l).owns && not b) inside ∙ and_right _ false refl
 
   finds : IsNext s t e → IfSome e.lock (λ l. Finds e.kind t (owner_part s l).owner (reader_part s l).writer)

@@ -1,8 +1,7 @@
 -- A next event keeps the migration law.
-use Rattle.std.proofs.Common.{◌≡◌, ◌⊎◌, inl, inr, ℕ, ◌+◌, ◌-◌, ◌*◌, ◌<◌, ◌≤◌, Bool, true, false, cond, ◌&&◌, ◌||◌, get_or, length, refl, sym, ap, ◌∙◌, subst, arith, Option, Some, None, All, IfSome, unwrap_or}
+use Rattle.std.proofs.Common.{◌≡◌, ◌⊎◌, inl, inr, ℕ, ◌+◌, ◌-◌, ◌<◌, ◌≤◌, Bool, true, false, cond, ◌&&◌, length, refl, sym, ap, ◌∙◌, subst, arith, Option, Some, None, All, IfSome, unwrap_or}
 use Rattle.std.specs.Prelude.{slice_get, slice_set, nat_lt, option_map}
 use Rattle.std.proofs.lemmas.Bool.Decides.{nat_tests}
-use Rattle.std.proofs.lemmas.List.Sums.{get_or-le-sum_by, sum-map}
 use Rattle.std.proofs.lemmas.Option.{slice_get_within}
 use Rattle.rt_base.specs.declared.call.Call.{Call}
 use Rattle.rt_base.specs.declared.call.Call.TheVariants as calls
@@ -10,7 +9,6 @@ use Rattle.rt_base.specs.declared.id.LockId.{LockId}
 use Rattle.rt_base.specs.declared.id.TaskId.{TaskId}
 use Rattle.rt_base.specs.declared.kind.Kind.{Kind}
 use Rattle.rt_base.specs.declared.kind.Kind.TheVariants.{Mutex, Spin, RwLock, RwSem, Local}
-use Rattle.rt_base.specs.declared.limits.TheConstants.{MAX_LOCKS, MAX_CALLS}
 use Rattle.rt_base.specs.declared.reply.Reply.{Reply}
 use Rattle.rt_base.specs.declared.reply.Reply.TheVariants as replies
 use Rattle.rt_model.specs.declared.event.Event.{Event}
@@ -20,26 +18,24 @@ use Rattle.rt_model.specs.declared.phase.Phase.TheVariants as phases
 use Rattle.rt_model.specs.declared.phase.Route.{Route}
 use Rattle.rt_model.specs.declared.phase.Route.TheVariants.{Short}
 use Rattle.rt_model.specs.Parts.{ThreadPart, call_of, hold_of, kind_of, has_readers, count_holds}
-use Rattle.rt_model.specs.Choice.{called_lock, present_lock, is_on}
+use Rattle.rt_model.specs.Choice.{present_lock, is_on}
 use Rattle.rt_model.specs.State.{State, shared, owner_part, reader_part, task_part, thread_part}
 use Rattle.rt_model.specs.Rules.{touched}
 use Rattle.rt_model.specs.Effect.{around}
 use Rattle.rt_model.specs.steps.Readers.{wakes_writer, without_reader}
 use Rattle.rt_model.specs.steps.Thread.{got_answer, released_answer, with_hold, with_read, without_read, downgraded, holds_after, pinned_by, unpinned_by, migration_after, answered_with}
 use Rattle.rt_model.specs.steps.Chain.{answer_of_walk}
-use Rattle.rt_model.specs.events.Own.{if_held, private_answer, own_answer}
 use Rattle.rt_model.specs.StateAfter.{shared_after, thread_after, state_after}
 use Rattle.rt_model.specs.Stage.{HasReadersAt, IsForKind, IsStaged, IsToCome}
 use Rattle.rt_model.specs.laws.Lawful.{IsLawful}
-use Rattle.rt_model.specs.laws.Shape.{calls_of}
 use Rattle.rt_model.specs.laws.Migration.{pins, pinned, MigrationLaw}
-use Rattle.rt_model.specs.laws.Owners.{has_inner, is_inside, gives_back, OwnersLaw}
+use Rattle.rt_model.specs.laws.Owners.{has_inner, gives_back, OwnersLaw}
 use Rattle.rt_model.specs.laws.Readers.{has_gone, going}
 use Rattle.rt_model.proofs.Lists.{All-at, All-default}
-use Rattle.rt_model.proofs.Holds.{count-set, count-most, read-some}
-use Rattle.rt_model.proofs.Calling.{at_call, IsIn, Asks, waits-holds, Tries, tries-holds, Returns, ReturnsBy, from_hold, from_inside, releases-holds, ends-holds, Writes, writes_by, writes-holds}
-use Rattle.rt_model.proofs.Inside.{present-at, inside-at}
-use Rattle.rt_model.proofs.Numbers.{number_itself, nobodys}
+use Rattle.rt_model.proofs.Holds.{count-set, read-some}
+use Rattle.rt_model.proofs.Calling.{at_call, IsIn, Asks, waits-holds, Tries, tries-holds, Returns, ReturnsBy, from_hold, from_inside, releases-holds, ends-holds, ends-called, Writes, writes_by, writes-holds, writes-called}
+use Rattle.rt_model.proofs.Inside.{present-at, inside-gives, unowned-unheld}
+use Rattle.rt_model.proofs.Numbers.{number_itself}
 use Rattle.rt_model.proofs.NextEvents.{IsNext, by_own, by_acquire, by_wait, by_release, by_reading, by_walk, by_confirm, by_wakeup, by_setprio, task-IsNext}
 use Rattle.rt_model.proofs.ToCome.{to_come-holds, answered-holds}
 use Rattle.rt_model.proofs.events.Acquire.{is_fast, is_mark, is_take, is_busy, asking, IsAcquiring, fast-acquiring, take-acquiring, acquiring-holds}
@@ -51,7 +47,7 @@ use Rattle.rt_model.proofs.events.Wakeups.{is_state, is_sched, is_wake, is_signa
 use Rattle.rt_model.proofs.PartsAfter.{thread-phase, thread-made}
 use Rattle.rt_model.proofs.Queues.{unowned-can_take}
 use Rattle.rt_model.proofs.Within.{HoldsFit}
-use Rattle.rt_model.proofs.laws.Owners.{held_never_got, never_done}
+use Rattle.rt_model.proofs.laws.Owners.{is_refusal, own-refuses}
 
 -- ---- an answer
 
@@ -215,35 +211,17 @@ pub record IsCounted (s : State) (t : TaskId) (reply : Option Reply) : Type 0 wh
   pub calling : call_of (thread_part s t) ≡ Some call
   pub counted : IfSome reply (Counted (thread_part s t) call)
 
--- a write isn't answered got at once
-write_never_got : (l : LockId) (kind : Option Kind) (nested : ℕ) (held : Bool) (migration : ℕ) → private_answer (calls.Write l) kind nested held migration ≡ Some replies.Got → ⊥
-write_never_got l (Some RwSem) nested held migration is = by_test (nat_lt 0 nested) is
-  where
-    by_test : (b : Bool) → cond b (Some replies.Nesting) (if_held held) ≡ Some replies.Got → ⊥
-    by_test true is = cc
-    by_test false is = held_never_got held is
-write_never_got l _ nested held migration is = held_never_got held is
-
--- what a thread answers at once changes no hold
-own-counted : (thread : ThreadPart) (call : Call) (answer : Reply) → own_answer thread call ≡ Some answer → Counted thread call answer
-own-counted thread (calls.Spin l) replies.Got is = absurd (held_never_got (hold_of thread l).owns is)
-own-counted thread (calls.TrySpin l) replies.Got is = cc
-own-counted thread (calls.Unspin l) replies.Done is = absurd (never_done (hold_of thread l).owns is)
-own-counted thread (calls.Unread l) replies.Done is = absurd (never_done (nat_lt 0 (hold_of thread l).reads) is)
-own-counted thread (calls.Write l) replies.Got is = absurd (write_never_got l (Some (kind_of thread l)) _ _ _ is)
-own-counted thread (calls.TryWrite l) replies.Got is = cc
-own-counted thread (calls.Unwrite l) replies.Done is = absurd (never_done (hold_of thread l).owns is)
-own-counted thread (calls.Downgrade l) replies.Done is = absurd (never_done (hold_of thread l).owns is)
-own-counted thread _ _ is = tt
+-- a refusal counts for nothing
+own-counted : (thread : ThreadPart) (call : Call) (answer : Reply) → is_refusal answer ≡ true → Counted thread call answer
+own-counted thread (calls.Spin l) replies.Got refuses = cc
+own-counted thread _ replies.Got refuses = cc
+own-counted thread _ replies.Done refuses = cc
+own-counted thread _ _ refuses = tt
 
 -- a walk's answer changes none
 walk-counted : (thread : ThreadPart) (call : Call) (answer : Reply) (next : Option Phase) → IsToCome call answer → IfSome (answer_of_walk (Short answer) next) (Counted thread call)
 walk-counted thread call answer next to_come =
     answered-holds (λ reply. IfSome reply (Counted thread call)) answer next (to_come-holds (λ c a. Counted thread c a) call answer to_come (λ l. tt) (λ l. tt) (λ l. tt) (λ l. tt) (λ l. tt) (λ l. tt) (λ u prio. tt)) tt
-
-neither : (a b : Bool) → (a || b) ≡ false → a ≡ false
-neither true b is = cc
-neither false b is = refl
 
 module _ (s : State) (t : TaskId) where
   -- a call that isn't answered yet, and one of which no answer counts
@@ -266,12 +244,6 @@ module _ (s : State) (t : TaskId) where
   refused : (l : LockId) → Tries s t l → IsCounted s t (Some replies.Busy)
   refused l at = record { call = at.call; calling = at.at.calling; counted = tries-holds (λ c. Counted (thread_part s t) c replies.Busy) at.call l at.tries_for tt tt tt }
 
-  -- one that has an inner lock holds the lock, not for reading, where it gives that back
-  inside-owns : (phase : Phase) (call : Call) (l : LockId) → OwnersLaw s → IsIn s t phase call → has_inner phase ≡ true → called_lock (thread_part s t).cpu call ≡ Some l → (hold_of (thread_part s t) l).owns ≡ gives_back phase (Some call)
-  inside-owns phase call l owners at is about =
-      let here : is_inside (thread_part s t) l ≡ true = inside-at (thread_part s t) l l (ap has_inner at.phased ∙ is) (present-at s t phase call (Some l) at about) ∙ number_itself l.0 in
-      owners.inside l t here ∙ (λ i. gives_back (at.phased i) (at.calling i))
-
   -- it releases one that it held
   done : (l : LockId) → OwnersLaw s → Returns s t l → IsCounted s t (Some (released_answer (call_of (thread_part s t))))
   done l owners is = record { call = is.call; calling = is.calling; counted = subst (λ (c : Option Call). Counted (thread_part s t) is.call (released_answer c)) (sym is.calling) (by_how is.by) }
@@ -282,7 +254,7 @@ module _ (s : State) (t : TaskId) where
       by_how : ReturnsBy s t l is.call → Released is.call
       by_how (from_hold releases at held) = releases-holds Released is.call l releases tt held
       by_how (from_inside ends at) =
-          let owns = inside-owns phases.Release is.call l owners at refl (ends-holds (λ c. called_lock (thread_part s t).cpu c ≡ Some l) is.call l ends refl refl refl refl) in
+          let owns = inside-gives s t l owners phases.Release is.call at refl (ends-called (thread_part s t).cpu is.call l ends) in
           ends-holds (λ c. (hold_of (thread_part s t) l).owns ≡ gives_back phases.Release (Some c) → Released c) is.call l ends (λ g. tt) (λ g. tt) (λ g. g) (λ g. g) owns
 
   -- its walk goes on, or ends
@@ -304,15 +276,10 @@ module _ (s : State) (t : TaskId) where
   pub its_answer : (made : ℕ) (e : Event) → IsLawful s made → IsNext s t e → IsCounted s t e.reply
   its_answer made e lawful next = by_kind next
     where
-      -- nobody holds a lock that nobody owns
-      unheld : (l : LockId) → (owner_part s l).owner ≡ None → (hold_of (thread_part s t) l).owns ≡ false
-      unheld l none = neither (hold_of (thread_part s t) l).owns (is_inside (thread_part s t) l) (lawful.owners.owned l t ∙ nobodys (owner_part s l).owner t none)
-
       -- a writer that gets in didn't hold the lock
       written : (l : LockId) (phase : Phase) (call : Call) → Writes call l → IsIn s t phase call → has_inner phase ≡ true → gives_back phase (Some call) ≡ false → IsCounted s t (Some replies.Got)
       written l phase call how at inner keeps =
-          let about = writes-holds (λ c. called_lock (thread_part s t).cpu c ≡ Some l) call l how refl refl in
-          let owns = inside-owns phase call l lawful.owners at inner about ∙ keeps in
+          let owns = inside-gives s t l lawful.owners phase call at inner (writes-called (thread_part s t).cpu call l how) ∙ keeps in
           answered phase call (Some replies.Got) at (writes-holds (λ c. Counted (thread_part s t) c replies.Got) call l how owns owns)
 
       -- a reader that leaves was in, also the last one, that wakes the writer
@@ -344,11 +311,11 @@ module _ (s : State) (t : TaskId) where
       reading l (is_downgraded is held) = told e _ is.event (unanswered _ _ is.at)
 
       by_kind : IsNext s t e → IsCounted s t e.reply
-      by_kind (by_own call answer is) = told e _ is.event (record { call = call; calling = is.at.calling; counted = own-counted (thread_part s t) call answer is.why })
-      by_kind (by_acquire l (is_fast is)) = told e _ is.event (got l (fast-acquiring s t l is.how) (unheld l is.owner))
+      by_kind (by_own call answer is) = told e _ is.event (record { call = call; calling = is.at.calling; counted = own-counted (thread_part s t) call answer (own-refuses s t call answer e is) })
+      by_kind (by_acquire l (is_fast is)) = told e _ is.event (got l (fast-acquiring s t l is.how) (unowned-unheld s t l lawful.owners is.owner))
       by_kind (by_acquire l (is_mark is)) = let asks = asking s t l is.how in told e _ is.event (unanswered asks.0 _ asks.1.at)
       by_kind (by_acquire l (is_take is)) =
-          told e _ is.event (got l (take-acquiring s t l is.how) (unheld l (unowned-can_take t (kind_of (thread_part s t) l) (owner_part s l) (task_part s t) is.can)))
+          told e _ is.event (got l (take-acquiring s t l is.how) (unowned-unheld s t l lawful.owners (unowned-can_take t (kind_of (thread_part s t) l) (owner_part s l) (task_part s t) is.can)))
       by_kind (by_acquire l (is_busy is)) = told e _ is.event (refused l is.at)
       by_kind (by_reading l is) = reading l is
       by_kind (by_wait l (is_wait is)) = told e _ is.event (unanswered phases.Slow _ is.at.at)
@@ -383,40 +350,3 @@ pub MigrationLaw-next : (s : State) (made : ℕ) (t : TaskId) (e : Event) → Is
 MigrationLaw-next s made t e lawful next u =
     let is : IsCounted s e.task e.reply = subst (λ (v : TaskId). IsCounted s v e.reply) (sym (task-IsNext s t e next)) (its_answer s t made e lawful next) in
     thread-made (λ v th. th.migration ≡ pinned th) s e e u refl (at_call s e.task is.call is.calling).1 (own-left s made e lawful is) (λ other. lawful.migration u)
-
--- ---- how far it goes
-
--- a thread that is at a call has fewer read holds of a lock than a script may have calls
-pub few-reads : (s : State) (made : ℕ) (t : TaskId) (call : Call) → IsLawful s made → call_of (thread_part s t) ≡ Some call → (l : LockId) → (hold_of (thread_part s t) l).reads < MAX_CALLS
-few-reads s made t call lawful calling l =
-    let thread = thread_part s t in
-    let here = at_call s t call calling in
-    let at_most : length thread.calls ≤ MAX_CALLS = All-default (λ (th : ThreadPart). length th.calls ≤ MAX_CALLS) s.threads t.0 _ (λ i d lt. few i d lt) here.1 in
-    omega (arith, at_most, slice_get_within thread.calls thread.answered call calling, lawful.readers.few l t)
-  where
-    few : All (λ (th : ThreadPart). length th.calls ≤ MAX_CALLS) s.threads
-    few i d lt =
-        let calls_at : ThreadPart → ℕ = λ th. length th.calls in
-        let one : length (get_or s.threads i d).calls ≤ calls_of s.threads = subst (λ (n : ℕ). calls_at (get_or s.threads i d) ≤ n) (sym (sum-map calls_at s.threads)) (get_or-le-sum_by calls_at s.threads i d lt) in
-        omega (arith, one, lawful.shape.few_calls)
-
--- who has so many read holds of each lock at most pins so many at most for each, and one for a write hold
-pub pinned-most : (thread : ThreadPart) (most : ℕ) → ((l : LockId) → (hold_of thread l).reads ≤ most) → pinned thread ≤ length thread.kinds * (most + 1)
-pinned-most thread most few = count-most pins (most + 1) thread.kinds thread.holds (record { owns = false; reads = 0 }) (λ kind i. omega (arith, pins-most kind (hold_of thread (record { 0 = i })), few (record { 0 = i })))
-  where
-    one-most : (b : Bool) → cond b 1 0 ≤ 1
-    one-most true = omega arith
-    one-most false = omega arith
-
-    pins-most : (kind : Kind) (hold : Hold) → pins kind hold ≤ hold.reads + 1
-    pins-most Spin hold = omega (arith, one-most hold.owns)
-    pins-most RwLock hold = omega (arith, one-most hold.owns)
-    pins-most _ hold = omega arith
-
--- so its migration count has a bound
-pub few-pinned : (s : State) (made : ℕ) (t : TaskId) (call : Call) → IsLawful s made → call_of (thread_part s t) ≡ Some call → (thread_part s t).migration ≤ MAX_LOCKS * (MAX_CALLS + 1)
-few-pinned s made t call lawful calling =
-    let thread = thread_part s t in
-    let kinds : length thread.kinds ≡ length s.locks = All-default (λ (th : ThreadPart). length th.kinds ≡ length s.locks) s.threads t.0 _ lawful.shape.kinds (at_call s t call calling).1 in
-    let most : pinned thread ≤ length thread.kinds * (MAX_CALLS + 1) = pinned-most thread MAX_CALLS (λ l. omega (arith, few-reads s made t call lawful calling l)) in
-    omega (arith, kinds, lawful.shape.few_locks, most, lawful.migration t)

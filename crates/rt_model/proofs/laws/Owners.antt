@@ -1,7 +1,7 @@
 -- A next event keeps the owners law.
 use Rattle.std.proofs.Common.{◌≡◌, ℕ, ◌+◌, ◌-◌, ◌<◌, Bool, true, false, cond, ◌&&◌, List, length, refl, sym, ap, ◌∙◌, subst, Option, Some, None, IfSome}
 use Rattle.std.specs.Prelude.{nat_eq, nat_lt, slice_set, option_and_then}
-use Rattle.std.proofs.lemmas.Bool.{and_right, or_right, or_parts}
+use Rattle.std.proofs.lemmas.Bool.{and_right, or_right}
 use Rattle.rt_base.specs.declared.call.Call.{Call}
 use Rattle.rt_base.specs.declared.call.Call.TheVariants as calls
 use Rattle.rt_base.specs.declared.id.LockId.{LockId}
@@ -35,13 +35,13 @@ use Rattle.rt_model.specs.laws.Lawful.{IsLawful}
 use Rattle.rt_model.proofs.Leaves.{IsLeft, by_leave, by_cycle, left_answer, left_kind, left_phase, left_made, left-is, left-asks, left-there, left-fits, left-thread, leave-left, cycle-left}
 use Rattle.rt_model.proofs.Links.{walked_thread, link-thread, end-thread, setprio-thread}
 use Rattle.rt_model.proofs.NextEvents.{IsNext, by_own, by_acquire, by_wait, by_release, by_reading, by_walk, by_confirm, by_wakeup, by_setprio}
-use Rattle.rt_model.proofs.Inside.{present-at, apart-owns, outside, outside-owns, inside-at, outside-owned, inside-owned, returns-owned}
+use Rattle.rt_model.proofs.Inside.{present-at, apart-owns, outside, outside-owns, inside-at, outside-owned, inside-owned, inside-gives, unowned-unheld, returns-owned}
 use Rattle.rt_model.proofs.Owned.{changes_owner, owners-kept}
 use Rattle.rt_model.proofs.Routes.{walk-fits, setprio-fits, SameSort, SameSort-itself, SameSort-followed, walked-holds}
-use Rattle.rt_model.proofs.Calling.{IsIn, Tries, tries-holds, Returns, ReturnsBy, from_hold, from_inside, releases-holds, ends-holds, Writes, writes_by, writes-holds}
+use Rattle.rt_model.proofs.Calling.{IsIn, Tries, tries-holds, Returns, ReturnsBy, from_hold, from_inside, releases-holds, ends-holds, ends-called, returning-called, Writes, writes_by, writes-holds, writes-called}
 use Rattle.rt_model.proofs.ToCome.{to_come-holds}
 use Rattle.rt_model.proofs.Waiters.{walk-phase}
-use Rattle.rt_model.proofs.events.Acquire.{is_fast, is_mark, is_take, is_busy, AsksBy, from_start, from_reading, IsAcquiring, fast-acquiring, take-acquiring, acquiring-holds}
+use Rattle.rt_model.proofs.events.Acquire.{is_fast, is_mark, is_take, is_busy, AsksBy, from_start, from_reading, IsAcquiring, fast-acquiring, take-acquiring, acquiring-holds, acquiring-called}
 use Rattle.rt_model.proofs.events.Own.{IsOwn}
 use Rattle.rt_model.proofs.Reading.{reading-kind}
 use Rattle.rt_model.proofs.events.Readers.{IsReading, IsMade, is_read, is_tryread, is_let_in, is_shut, is_tryshut, is_out, is_wwake, is_unbias, is_in, is_sleep, is_given_up, is_in_late, is_sleep_again, is_opened, is_downgraded, reading-in, reading-task}
@@ -62,16 +62,7 @@ is_writers _ = false
 
 -- ---- answers that leave what a thread holds
 
--- what a thread answers at once gives it no lock, and releases none
-pub held_never_got : (held : Bool) → if_held held ≡ Some replies.Got → ⊥
-held_never_got true is = cc
-held_never_got false is = cc
-
-pub never_done : (held : Bool) → if_not_held held ≡ Some replies.Done → ⊥
-never_done true is = cc
-never_done false is = cc
-
--- all that it answers is a refusal
+-- all that a thread answers at once is a refusal
 abbrev pub is_refusal : Reply → Bool
 is_refusal replies.Deadlock = true
 is_refusal replies.Nesting = true
@@ -124,18 +115,18 @@ pub own-refuses : (s : State) (t : TaskId) (call : Call) (answer : Reply) (e : E
 own-refuses s t call answer e is = subst Refuses is.why (private-refuses call _ _ _ _)
 
 -- which leaves what the thread holds
-refused_holds : (thread : ThreadPart) (call : Call) (answer : Reply) → is_refusal answer ≡ true → holds_after thread (Some call) answer ≡ thread.holds
+pub refused_holds : (thread : ThreadPart) (call : Call) (answer : Reply) → is_refusal answer ≡ true → holds_after thread (Some call) answer ≡ thread.holds
 refused_holds thread (calls.Lock l) replies.Got refuses = cc
 refused_holds thread _ replies.Got refuses = cc
 refused_holds thread _ replies.Done refuses = cc
 refused_holds thread _ _ refuses = refl
 
 -- what the thread holds, as its call says
-holds_at : (thread : ThreadPart) (call : Call) (answer : Reply) → call_of thread ≡ Some call → holds_after thread (call_of thread) answer ≡ holds_after thread (Some call) answer
+pub holds_at : (thread : ThreadPart) (call : Call) (answer : Reply) → call_of thread ≡ Some call → holds_after thread (call_of thread) answer ≡ holds_after thread (Some call) answer
 holds_at thread call answer is = ap (λ (c : Option Call). holds_after thread c answer) is
 
 -- nor does the answer of a short walk
-short_holds : (thread : ThreadPart) (u : TaskId) (answer : Reply) (call : Option Call) → IsPhaseOf (phases.Walk u (Short answer)) call → holds_after thread call answer ≡ thread.holds
+pub short_holds : (thread : ThreadPart) (u : TaskId) (answer : Reply) (call : Option Call) → IsPhaseOf (phases.Walk u (Short answer)) call → holds_after thread call answer ≡ thread.holds
 short_holds thread u answer (Some call) fits = to_come-holds (λ c a. holds_after thread (Some c) a ≡ thread.holds) call answer fits (λ l. refl) (λ l. refl) (λ l. refl) (λ l. refl) (λ l. refl) (λ l. refl) (λ v prio. refl)
 short_holds thread u answer None fits = absurd fits
 
@@ -188,13 +179,6 @@ unchanged thread left l out is owns held = apart left l owns (outside left l out
 
 same_holds : (thread left : ThreadPart) (l : LockId) → has_inner left.phase ≡ false → left.holds ≡ thread.holds → Leaves thread left l (hold_of thread l).owns
 same_holds thread left l out is = record { here = unchanged thread left l out is (hold_of thread l).owns refl; there = λ m ne. unchanged thread left m out is (hold_of thread m).owns refl }
-
--- who is inside holds its lock, not for reading, where it gives it back
-inside-gives : (s : State) (t : TaskId) (l : LockId) → OwnersLaw s → (phase : Phase) (call : Call) → IsIn s t phase call → has_inner phase ≡ true → called_lock (thread_part s t).cpu call ≡ Some l
-    → (hold_of (thread_part s t) l).owns ≡ gives_back phase (Some call)
-inside-gives s t l owners phase call at has lock =
-    owners.inside l t (inside-at (thread_part s t) l l (ap has_inner at.phased ∙ has) (present-at s t phase call (Some l) at lock) ∙ number_itself l.0)
-    ∙ (λ i. gives_back (at.phased i) (at.calling i))
 
 -- ---- who gets an owner part, and who releases one
 
@@ -255,7 +239,7 @@ module _ (s : State) (t : TaskId) (l : LockId) (room : l.0 < length (thread_part
           (λ owns calling. subst (Leaves thread (With thread thread.phase replies.Busy) l) owns (same_holds thread (With thread thread.phase replies.Busy) l refl (holds_at thread (calls.TryWrite l) replies.Busy calling)))
           (λ owns. done (calls.Unwrite l) refl)
           (λ owns. writes_hold thread.phase (calls.Downgrade l) replies.Done (record { owns = false; reads = (hold_of thread l).reads + 1 }) refl)
-          (inside-gives s t l owners phases.Release is.call at refl (ends-holds (λ c. called_lock thread.cpu c ≡ Some l) is.call l ends refl refl refl refl)) is.calling
+          (inside-gives s t l owners phases.Release is.call at refl (ends-called thread.cpu is.call l ends)) is.calling
 
 -- ---- readers and writers
 
@@ -302,7 +286,7 @@ steps s made t l e lawful reading = by_kind reading
 
     gets : (phase : Phase) (call : Call) (x : Event) → IsMade s t l phase call x e → has_inner phase ≡ true → Writes call l → Left x ≡ With thread thread.phase replies.Got → Steps s t l e
     gets phase call x is inner writes left =
-        has phase call x is (inside-owned s t l lawful.owners phase call is.at inner (writes-holds (λ c. called_lock thread.cpu c ≡ Some l) call l writes refl refl))
+        has phase call x is (inside-owned s t l lawful.owners phase call is.at inner (writes-called thread.cpu call l writes))
         (subst (λ (th : ThreadPart). Leaves thread th l true) (sym left)
         (writes-holds (λ c. call_of thread ≡ Some c → Leaves thread (With thread thread.phase replies.Got) l true) call l writes (got s t l room (calls.Write l) refl) (got s t l room (calls.TryWrite l) refl) is.at.calling))
 
@@ -333,7 +317,7 @@ steps s made t l e lawful reading = by_kind reading
     by_kind (is_out is held) = stays _ _ _ is refl refl (out _ _ is.at.calling is.at.phased)
     by_kind (is_wwake is) = stays _ _ _ is refl refl (reads thread.phase (calls.Unread l) replies.Done ((hold_of thread l).reads - 1) refl is.at.calling)
     by_kind (is_let_in is) = goes _ phases.Release _ _ is refl refl refl refl (ap (λ (p : Phase). record thread { phase = phase_after_rin p }) is.at.phased)
-    by_kind (is_unbias call writes is) = goes _ phases.WTry _ _ is refl refl (writes-holds (λ c. called_lock thread.cpu c ≡ Some l) call l writes refl refl) refl refl
+    by_kind (is_unbias call writes is) = goes _ phases.WTry _ _ is refl refl (writes-called thread.cpu call l writes) refl refl
     by_kind (is_sleep is cannot) = goes _ phases.WWait _ _ is refl refl refl refl refl
     by_kind (is_sleep_again is runs cannot) = goes _ phases.WWait _ _ is refl refl refl refl refl
     by_kind (is_given_up is cannot) = goes _ phases.Release _ _ is refl refl refl refl refl
@@ -441,26 +425,21 @@ OwnersLaw-next s made t e lawful next = by_kind next
 
     -- one that gets a lock has its owner part, and nobody had it
     acquiring-about : (l : LockId) → IsAcquiring s t l → present_lock thread ≡ Some l
-    acquiring-about l is = about thread is.call is.calling ∙ acquiring-holds (λ c. called_lock thread.cpu c ≡ Some l) is.call l is.acquires refl refl refl refl refl refl refl refl
+    acquiring-about l is = about thread is.call is.calling ∙ acquiring-called thread.cpu is.call l is.acquires
 
     gets : (l : LockId) → t.0 < length s.threads → l.0 < length s.locks → IsAcquiring s t l → (owner_part s l).owner ≡ None → Leaves thread (Got thread (call_of thread)) l (owned_by (Some t) t)
     gets l task lock is none =
-        let unheld = (or_parts (hold_of thread l).owns (is_inside thread l) (lawful.owners.owned l t ∙ nobodys (owner_part s l).owner t none)).0 in
-        subst (Leaves thread (Got thread (call_of thread)) l) (sym (number_itself t.0)) (acquired s t l (holds_room s t l lawful.shape task lock) is unheld)
+        subst (Leaves thread (Got thread (call_of thread)) l) (sym (number_itself t.0)) (acquired s t l (holds_room s t l lawful.shape task lock) is (unowned-unheld s t l lawful.owners none))
 
     nobodys_before : (l : LockId) → (owner_part s l).owner ≡ None → (u : TaskId) → nat_eq t.0 u.0 ≡ false → nat_eq t.0 u.0 ≡ owned_by (owner_part s l).owner u
     nobodys_before l none u other = other ∙ sym (nobodys (owner_part s l).owner u none)
 
     -- one that releases it had that
-    returns-about : (l : LockId) (call : Call) → ReturnsBy s t l call → called_lock thread.cpu call ≡ Some l
-    returns-about l call (from_hold releases at held) = releases-holds (λ c. called_lock thread.cpu c ≡ Some l) call l releases refl refl
-    returns-about l call (from_inside ends at) = ends-holds (λ c. called_lock thread.cpu c ≡ Some l) call l ends refl refl refl refl
-
     frees : (l : LockId) → Returns s t l → Leaves thread (answered_with thread (Some (released_answer (call_of thread)))) l false
     frees l at = released s t l (holds_room s t l lawful.shape at.task at.lock) lawful.owners at
 
     freed-about : (l : LockId) → Returns s t l → present_lock thread ≡ Some l
-    freed-about l at = about thread at.call at.calling ∙ returns-about l at.call at.by
+    freed-about l at = about thread at.call at.calling ∙ returning-called thread.cpu s t l at
 
     its_before : (l : LockId) → Returns s t l → (u : TaskId) → nat_eq t.0 u.0 ≡ false → false ≡ owned_by (owner_part s l).owner u
     its_before l at u other = sym (one_owner (owner_part s l).owner t u (returns-owned s t l lawful.owners at) other)

@@ -1,7 +1,7 @@
 -- A next event keeps the readers law.
 use Rattle.std.proofs.Common.{◌≡◌, ℕ, ◌+◌, ◌-◌, ◌<◌, ◌≤◌, Bool, true, false, cond, not, ◌&&◌, ◌||◌, List, [], length, refl, sym, ap, ◌∙◌, subst, arith, Option, Some, None, unwrap_or}
 use Rattle.std.specs.Prelude.{slice_get, slice_set, nat_eq, nat_lt, option_map}
-use Rattle.std.proofs.lemmas.Bool.{or_parts, or_left, or_right}
+use Rattle.std.proofs.lemmas.Bool.{or_left, or_right}
 use Rattle.std.proofs.lemmas.Bool.Decides.{nat_tests}
 use Rattle.std.proofs.lemmas.Option.{slice_get_within}
 use Rattle.rt_base.specs.declared.call.Call.{Call}
@@ -33,22 +33,21 @@ use Rattle.rt_model.specs.steps.Thread.{phase_after_got, got_answer, released_an
 use Rattle.rt_model.specs.events.Readers.{phase_after_rin, rin_event, rout_event, wopen_event}
 use Rattle.rt_model.specs.events.Wait.{phase_after_wait}
 use Rattle.rt_model.specs.laws.Lawful.{IsLawful}
-use Rattle.rt_model.specs.laws.Owners.{owned_by, has_inner, is_inside, has_owner_part, gives_back, OwnersLaw}
+use Rattle.rt_model.specs.laws.Owners.{owned_by, has_inner, has_owner_part, gives_back, OwnersLaw}
 use Rattle.rt_model.specs.laws.Readers.{is_unbiased, is_closing, is_writing, of_owner, going, readers_by, all_readers, ReadersLaw}
 use Rattle.rt_model.proofs.Counts.{sum-update, sum-part}
-use Rattle.rt_model.proofs.Numbers.{number_itself, other_number, at_each_task, at_each_lock, one_owner, owner-is, nobodys}
-use Rattle.rt_model.proofs.Looks.{Look, look, look_of, plain_look, writing, off, has_part, reading, is_plain, plain-phase, plain-elsewhere, Facts, Turn, Flags, as_were, its_own, Quiet, quiet-turn, plain-quiet, got-quiet, released-quiet, woken-quiet, slept-quiet, read-turn, let_in-turn, out-turn, last-turn, unbias-turn, open-turn, written-turn}
-use Rattle.rt_model.proofs.Calling.{at_call, served_call, IsIn, Returns, ReturnsBy, from_hold, from_inside, tries-holds, releases-holds, ends-holds, Writes, writes_by, writes-holds}
-use Rattle.rt_model.proofs.Inside.{present-at, inside-at}
+use Rattle.rt_model.proofs.Numbers.{number_itself, other_number, at_each_task, at_each_lock, one_owner, owner-is}
+use Rattle.rt_model.proofs.Looks.{Look, look, look_of, plain_look, writing, off, has_part, is_plain, plain-phase, plain-elsewhere, Facts, Turn, Flags, as_were, its_own, Quiet, quiet-turn, plain-quiet, got-quiet, released-quiet, woken-quiet, slept-quiet, read-turn, let_in-turn, out-turn, last-turn, unbias-turn, open-turn, written-turn}
+use Rattle.rt_model.proofs.Calling.{at_call, served_call, IsIn, Returns, ReturnsBy, from_hold, from_inside, tries-holds, releases-holds, ends-holds, Writes, writes_by, writes-holds, writes-called}
+use Rattle.rt_model.proofs.Inside.{present-at, inside-gives, unowned-unheld}
 use Rattle.rt_model.proofs.events.Acquire.{AsksBy, from_start, from_reading, AcquiresIn, by_asking, by_trying, TakesIn, from_slow, from_wait, from_trying, is_fast, is_mark, is_take, is_busy, IsAcquiring, fast-acquiring, take-acquiring, acquiring-holds}
 use Rattle.rt_model.proofs.events.Release.{is_free, is_give}
 use Rattle.rt_model.proofs.events.Wait.{is_wait, is_again, is_leave}
 use Rattle.rt_model.proofs.events.Walk.{is_walk, is_walkend, is_restart, is_cycle}
 use Rattle.rt_model.proofs.events.Wakeups.{is_state, is_sched, is_wake, is_signal}
 use Rattle.rt_model.proofs.NextEvents.{IsNext, by_own, by_acquire, by_wait, by_release, by_reading, by_walk, by_confirm, by_wakeup, by_setprio, task-IsNext}
-use Rattle.rt_model.proofs.ToCome.{to_come-holds}
 use Rattle.rt_model.proofs.laws.Migration.{call-fits, its_answer}
-use Rattle.rt_model.proofs.laws.Owners.{is_refusal, own-refuses, OwnersLaw-next}
+use Rattle.rt_model.proofs.laws.Owners.{own-refuses, refused_holds, holds_at, short_holds, OwnersLaw-next}
 use Rattle.rt_model.proofs.Queues.{unowned-can_take}
 use Rattle.rt_model.proofs.Leaves.{IsLeft, by_leave, by_cycle, left_answer, left_kind, left_phase, left_made, left-is, left-asks, left-there, left-fits, left-thread, leave-left, cycle-left}
 use Rattle.rt_model.proofs.Links.{walked_thread, link-thread, end-thread, setprio-thread}
@@ -216,13 +215,6 @@ module _ (s : State) (made : ℕ) (t : TaskId) (e : Event) (lawful : IsLawful s 
 record Holding (thread : ThreadPart) (l : LockId) (hold : Hold) (holds : List Hold) : Type 0 where
   here : unwrap_or (slice_get holds l.0) (record { owns = false; reads = 0 }) ≡ hold
   there : (m : LockId) → nat_eq l.0 m.0 ≡ false → unwrap_or (slice_get holds m.0) (record { owns = false; reads = 0 }) ≡ hold_of thread m
-
--- an answer that refuses a call changes none
-refused-holds : (thread : ThreadPart) (call : Option Call) (answer : Reply) → is_refusal answer ≡ true → holds_after thread call answer ≡ thread.holds
-refused-holds thread (Some (calls.Lock l)) replies.Deadlock is = refl
-refused-holds thread call replies.Got is = cc
-refused-holds thread call replies.Done is = cc
-refused-holds thread call answer is = refl
 
 -- ---- what a thread is at a lock
 
@@ -448,7 +440,7 @@ module _ (s : State) (made : ℕ) (t : TaskId) (lawful : IsLawful s made) where
         was call = plain-phase th.phase (Some call) true rw (hold_of th l) th.answered plain
 
         unheld : (hold_of th l).owns ≡ false
-        unheld = (or_parts (hold_of th l).owns (look th l).inside (lawful.owners.owned l t ∙ nobodys (owner_part s l).owner t none)).0
+        unheld = unowned-unheld s t l lawful.owners none
 
         inside : (hold_of th l).reads ≤ th.answered → Quiet (plain_at l) (look_of phases.Unbias None true rw (hold_of th l) th.answered)
         inside = got-quiet rw (hold_of th l) th.answered unheld
@@ -492,19 +484,13 @@ module _ (s : State) (made : ℕ) (t : TaskId) (lawful : IsLawful s made) where
             ends-quiet l phases.Start call here about x th.phase replies.Done hold (event _ (left ∙ ap (λ (a : Reply). answered_with th (Some a)) done)) (subst (Holding th l hold) (sym holds) (written l phases.Start call here about at.lock hold)) keeps
             (other-quiet rw false (hold_of th l) th.answered (other_kind l k (fit (fits call here.calling)) none))
 
-        -- whether it holds the lock, and not for reading, is told by its call
-        gives : (call : Call) → IsIn s t phases.Release call → called_lock th.cpu call ≡ Some l → (hold_of th l).owns ≡ gives_back phases.Release (Some call)
-        gives call here about =
-            let inner : is_inside th l ≡ true = inside-at th l l (ap has_inner here.phased) (present-at s t phases.Release call (Some l) here about) ∙ number_itself l.0 in
-            lawful.owners.inside l t inner ∙ (λ i. gives_back (here.phased i) (here.calling i))
-
         passed : (call : Call) (hold : Hold) (coming : ℕ) → called_lock th.cpu call ≡ Some l → (l.0 < length s.locks → IsIn s t phases.Release call → Holding th l hold (holds_after th (Some call) (released_answer (Some call))))
             → (gives_back phases.Release (Some call) ≡ (hold_of th l).owns → hold.owns ≡ false) → hold.reads ≡ (hold_of th l).reads + coming → coming ≤ 1
             → (Quiet (record (plain_at l) { inside = true; coming = coming }) (after_at l hold) → Quiet (seen_in l phases.Release call) (after_at l hold))
             → IsIn s t phases.Release call → Left call → ReadersLaw (state_after s e)
         passed call hold coming about holding unheld reads one seen here left =
             ends-quiet l phases.Release call here about x th.phase (released_answer (Some call)) hold (event _ left) (holding at.lock here) keeps
-            (λ few. seen (released-quiet rw (hold_of th l) th.answered coming hold (unheld (sym (gives call here about))) reads (omega (arith, reads, one, few))))
+            (λ few. seen (released-quiet rw (hold_of th l) th.answered coming hold (unheld (sym (inside-gives s t l lawful.owners phases.Release call here refl about))) reads (omega (arith, reads, one, few))))
 
         by_how : ReturnsBy s t l at.call → ReadersLaw (state_after s e)
         by_how (from_hold how here held) =
@@ -570,7 +556,7 @@ module _ (s : State) (made : ℕ) (t : TaskId) (lawful : IsLawful s made) where
             → Turn (seen_in l phase call) (after_at l (record (hold_of th l) { owns = true })) (reader_part s l) (with_writer (reader_part s l)))
         → ReadersLaw (state_after s e)
     gets_in l phase call x writes is own left cells turn =
-        let about : called_lock th.cpu call ≡ Some l = writes-holds (λ c. called_lock th.cpu c ≡ Some l) call l writes refl refl in
+        let about : called_lock th.cpu call ≡ Some l = writes-called th.cpu call l writes in
         let hold : Hold = record (hold_of th l) { owns = true } in
         let its : Holding th l hold (with_hold th l true) = written l phase call is.at about is.lock hold in
         ends l phase call is.at about x th.phase replies.Got hold (with_writer (reader_part s l)) (made-event _ l _ _ _ is own left)
@@ -605,7 +591,7 @@ module _ (s : State) (made : ℕ) (t : TaskId) (lawful : IsLawful s made) where
         ends-quiet l phases.WakeWriter (calls.Unread l) is.at refl _ th.phase replies.Done _ (made-event _ l _ _ _ is refl refl) (written l phases.WakeWriter (calls.Unread l) is.at refl is.lock _) refl
         (woken-quiet (has_readers (kind_of th l)) (hold_of th l) th.answered)
     reads l (is_unbias call writes is) =
-        goes l phases.Unbias call is.at (writes-holds (λ c. called_lock th.cpu c ≡ Some l) call l writes refl refl) _ phases.WTry (unbiased (reader_part s l)) (made-event _ l _ _ _ is refl refl) (changed l _ is.event refl is.lock)
+        goes l phases.Unbias call is.at (writes-called th.cpu call l writes) _ phases.WTry (unbiased (reader_part s l)) (made-event _ l _ _ _ is refl refl) (changed l _ is.event refl is.lock)
         (unbias-turn (has_readers (kind_of th l)) (hold_of th l) th.answered (reader_part s l))
     reads l (is_in call writes is can) = gets_in l phases.WTry call _ writes is refl refl (changed l _ is.event refl is.lock) (λ known rw. written-turn (has_readers (kind_of th l)) (hold_of th l) th.answered (reader_part s l) rw can known)
     reads l (is_in_late is runs can) =
@@ -629,11 +615,6 @@ module _ (s : State) (made : ℕ) (t : TaskId) (lawful : IsLawful s made) where
     plain-event : (x : Event) (left : ThreadPart) → e ≡ x → x.task ≡ t → t.0 < length s.threads → changes_readers x.kind ≡ false → thread_after (shared s) (thread_part s x.task) x ≡ left → Keeps left → ReadersLaw (state_after s e)
     plain-event x left is own there keeps so = plainly x left (record { is = is; own = own; there = there; thread = so }) keeps
 
-    -- the answer of a short walk leaves what the thread holds
-    short_holds : (u : TaskId) (answer : Reply) (call : Option Call) → IsPhaseOf (phases.Walk u (Short answer)) call → holds_after (record th { phase = phases.Start }) call answer ≡ th.holds
-    short_holds u answer (Some call) fit = to_come-holds (λ c a. holds_after (record th { phase = phases.Start }) (Some c) a ≡ th.holds) call answer fit (λ l. refl) (λ l. refl) (λ l. refl) (λ l. refl) (λ l. refl) (λ l. refl) (λ u prio. refl)
-    short_holds u answer None fit = absurd fit
-
     -- a walk, whose thread is left so
     walks : (x : Event) (u : TaskId) (route onward : Route) (owner : Option TaskId) (task : TaskPart) → e ≡ x → x.task ≡ t → t.0 < length s.threads → changes_readers x.kind ≡ false → is_plain th.phase ≡ true
         → thread_after (shared s) (thread_part s x.task) x ≡ walked_thread th route (goes_on t onward owner task) → SameSort route onward → IsPhaseOf (phases.Walk u route) (call_of th) → ReadersLaw (state_after s e)
@@ -641,7 +622,7 @@ module _ (s : State) (made : ℕ) (t : TaskId) (lawful : IsLawful s made) where
         plain-event x (walked_thread th route (goes_on t onward owner task)) is own there keeps so
         (walked-holds (λ r left. IsPhaseOf (phases.Walk u r) (call_of th) → Keeps left) th t route onward owner task sort
         (λ path f. moved phases.Wait refl before) (λ path rest f. moved (phases.Confirm rest) refl before) (λ path rest o f. moved (phases.Walk o (Full rest)) refl before)
-        (λ answer f. answered phases.Start answer (short_holds u answer (call_of th) f) before) (λ answer o f. moved (phases.Walk o (Short answer)) refl before) fit)
+        (λ answer f. answered phases.Start answer (short_holds (record th { phase = phases.Start }) u answer (call_of th) f) before) (λ answer o f. moved (phases.Walk o (Short answer)) refl before) fit)
 
     -- one that leaves a queue
     unqueues : (l : LockId) → IsLeft s t l e → ReadersLaw (state_after s e)
@@ -675,19 +656,15 @@ module _ (s : State) (made : ℕ) (t : TaskId) (lawful : IsLawful s made) where
     waits-plain l (Some o) false = refl
     waits-plain l None blocked = refl
 
-    -- what its call's answer leaves
-    held_at : (p : Phase) (call : Call) (answer : Reply) → call_of th ≡ Some call → holds_after (record th { phase = p }) (Some call) answer ≡ th.holds → holds_after (record th { phase = p }) (call_of th) answer ≡ th.holds
-    held_at p call answer calling holds = ap (λ (c : Option Call). holds_after (record th { phase = p }) c answer) calling ∙ holds
-
     -- a call that is answered by its first event, and holds nothing more or less by that
     called : (call : Call) (answer : Reply) (x : Event) → IsIn s t phases.Start call → e ≡ x → x.task ≡ t → changes_readers x.kind ≡ false → thread_after (shared s) (thread_part s x.task) x ≡ answered_with th (Some answer)
         → holds_after th (Some call) answer ≡ th.holds → ReadersLaw (state_after s e)
     called call answer x at is own keeps so holds =
-        plain-event x _ is own at.task keeps so (answered th.phase answer (held_at th.phase call answer at.calling holds) (ap is_plain at.phased))
+        plain-event x _ is own at.task keeps so (answered th.phase answer (holds_at th call answer at.calling ∙ holds) (ap is_plain at.phased))
 
     by_kind : IsNext s t e → ReadersLaw (state_after s e)
     by_kind (by_own call answer is) =
-        plain-event _ _ is.event refl is.at.task refl refl (answered th.phase answer (refused-holds th (call_of th) answer (own-refuses s t call answer e is)) (ap is_plain is.at.phased))
+        plain-event _ _ is.event refl is.at.task refl refl (answered th.phase answer (holds_at th call answer is.at.calling ∙ refused_holds th call answer (own-refuses s t call answer e is)) (ap is_plain is.at.phased))
     by_kind (by_acquire l (is_fast is)) = acquires _ l is.event refl is.task is.lock refl is.owner (fast-acquiring s t l is.how) (fast-plain l is.how) refl
     by_kind (by_acquire l (is_mark is)) = plain-event _ _ is.event refl is.task refl refl (moved phases.Slow refl (asks-plain l is.how))
     by_kind (by_acquire l (is_take is)) =
@@ -695,7 +672,7 @@ module _ (s : State) (made : ℕ) (t : TaskId) (lawful : IsLawful s made) where
     by_kind (by_acquire l (is_busy is)) =
         let p : Phase = phase_after_busy (call_of th) th.phase in
         plain-event _ _ is.event refl is.at.at.task refl refl
-        (answered p replies.Busy (held_at p is.at.call replies.Busy is.at.at.calling (tries-holds (λ c. holds_after th (Some c) replies.Busy ≡ th.holds) is.at.call l is.at.tries_for refl refl refl)) (ap is_plain is.at.at.phased))
+        (answered p replies.Busy (holds_at (record th { phase = p }) is.at.call replies.Busy is.at.at.calling ∙ (tries-holds (λ c. holds_after th (Some c) replies.Busy ≡ th.holds) is.at.call l is.at.tries_for refl refl refl)) (ap is_plain is.at.at.phased))
     by_kind (by_wait l (is_wait is)) = plain-event _ _ is.event refl is.at.at.task refl refl (moved _ (waits-plain l (owner_part s l).owner _) (ap is_plain is.at.at.phased))
     by_kind (by_wait l (is_again is)) = plain-event _ _ is.event refl is.at.at.task refl refl (moved th.phase (ap is_plain is.at.at.phased) (ap is_plain is.at.at.phased))
     by_kind (by_wait l (is_leave is)) = unqueues l (leave-left s t l e is)

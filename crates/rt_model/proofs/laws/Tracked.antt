@@ -1,7 +1,7 @@
 -- What a next event makes of what is seen of a task, and of its two fields, is what the flat wakeup machine makes of them.
-use Rattle.std.proofs.Common.{◌≡◌, ◌≢◌, ℕ, zero, suc, ◌<◌, Bool, true, false, cond, not, ◌||◌, List, [], ◌∷◌, length, map, refl, sym, ap, ◌∙◌, subst, Option, Some, None, unwrap_or}
+use Rattle.std.proofs.Common.{◌≡◌, ◌≢◌, ◌⊎◌, inl, inr, ℕ, zero, suc, ◌<◌, Bool, true, false, cond, not, ◌||◌, List, [], ◌∷◌, length, map, refl, sym, ap, ◌∙◌, subst, Option, Some, None, unwrap_or}
 use Rattle.std.specs.Prelude.{is_some, nat_eq, slice_get}
-use Rattle.std.proofs.lemmas.Bool.{cond-true, cond-false, cond_both, or_from, or_left, or_right}
+use Rattle.std.proofs.lemmas.Bool.{cond-true, cond-false, or_from, or_left, or_right}
 use Rattle.rt_base.specs.Kind.{spins}
 use Rattle.rt_base.specs.Script.{Script, TaskLine, LockLine, task_line, lock_line}
 use Rattle.rt_base.specs.declared.call.Call.{Call}
@@ -11,7 +11,6 @@ use Rattle.rt_base.specs.declared.id.TaskId.{TaskId}
 use Rattle.rt_base.specs.declared.kind.Kind.{Kind}
 use Rattle.rt_base.specs.declared.kind.Kind.TheVariants.{Mutex}
 use Rattle.rt_base.specs.declared.reply.Reply.{Reply}
-use Rattle.rt_base.specs.declared.reply.Reply.TheVariants.{Deadlock, Interrupted, Done}
 use Rattle.rt_base.specs.declared.state.TaskState.{TaskState}
 use Rattle.rt_base.specs.declared.state.TaskState.TheVariants as states
 use Rattle.rt_model.specs.declared.event.Event.{Event}
@@ -20,24 +19,18 @@ use Rattle.rt_model.specs.declared.event_kind.EventKind.TheVariants as kinds
 use Rattle.rt_model.specs.declared.phase.Phase.{Phase}
 use Rattle.rt_model.specs.declared.phase.Phase.TheVariants as phases
 use Rattle.rt_model.specs.declared.phase.Route.{Route}
-use Rattle.rt_model.specs.declared.phase.Route.TheVariants.{Full, Short}
 use Rattle.rt_model.specs.Choice.{bare, called_lock}
 use Rattle.rt_model.specs.Parts.{OwnerPart, TaskPart, ThreadPart, call_of, kind_of, kind_named}
-use Rattle.rt_model.specs.Path.{first_owner}
 use Rattle.rt_model.specs.Rows.{top_key}
 use Rattle.rt_model.specs.State.{State, shared, kinds_in, no_thread, owner_part, task_part, thread_part}
-use Rattle.rt_model.specs.events.Readers.{phase_after_rin, wtake_event, wsleep_event, wwake_event, writer_rests}
+use Rattle.rt_model.specs.events.Readers.{wtake_event, wsleep_event, wwake_event, writer_rests}
 use Rattle.rt_model.specs.events.Release.{give_event}
-use Rattle.rt_model.specs.events.Wait.{phase_after_wait}
-use Rattle.rt_model.specs.events.Walk.{phase_after_link, phase_after_end}
 use Rattle.rt_model.specs.Effect.{Around, around}
-use Rattle.rt_model.specs.Rules.{touched, effect}
+use Rattle.rt_model.specs.Rules.{touched}
 use Rattle.rt_model.specs.StateAfter.{effect_in, lock_left, shared_after, state_after}
-use Rattle.rt_model.specs.steps.Chain.{goes_on, phase_of_walk}
 use Rattle.rt_model.specs.steps.Lock.{taken_by}
-use Rattle.rt_model.specs.steps.Readers.{wakes_writer}
 use Rattle.rt_model.specs.steps.Task.{state_number, state_numbered, sleep_of, rest_of, restored, leave_queue, lock_woken}
-use Rattle.rt_model.specs.steps.Thread.{phase_after_got, phase_after_busy, answered_with}
+use Rattle.rt_model.specs.steps.Thread.{answered_with}
 use Rattle.rt_model.specs.laws.Flat.{Seen, count_answer, waiting_after, seen_after, call_at, Flat, flat_woken, flat_woken_by, is_ordinary, flat_own, is_wakeup, flat_after, Tracked, track_event}
 use Rattle.rt_model.specs.laws.Lawful.{IsLawful}
 use Rattle.rt_model.specs.laws.Owners.{owned_by}
@@ -45,8 +38,7 @@ use Rattle.rt_model.specs.laws.Queued.{awaited_in}
 use Rattle.rt_model.specs.laws.Shape.{IsOf}
 use Rattle.rt_model.specs.laws.States.{IsRested, has_slept, sleeps_spinning, spins_at, waits_spinning}
 use Rattle.rt_model.proofs.Blocked.{changes_own, blocked-kept, blocking-kept, blocking-other, take-blocked, wait-blocked}
-use Rattle.rt_model.proofs.Calling.{IsIn, ReturnsBy, from_hold, from_inside}
-use Rattle.rt_model.proofs.Calm.{wakeup-at}
+use Rattle.rt_model.proofs.Calling.{IsIn}
 use Rattle.rt_model.proofs.Inside.{present-at}
 use Rattle.rt_model.proofs.Leaves.{IsLeft, by_leave, by_cycle, left-is, leave-left, cycle-left, left-own, left-own_blocked, left-blocked}
 use Rattle.rt_model.proofs.Links.{slots_there, link-slots}
@@ -55,12 +47,11 @@ use Rattle.rt_model.proofs.Named.{top_within}
 use Rattle.rt_model.proofs.NextEvents.{IsNext, by_own, by_acquire, by_wait, by_release, by_reading, by_walk, by_confirm, by_wakeup, by_setprio}
 use Rattle.rt_model.proofs.Numbers.{number_itself, other_number, at_each_task}
 use Rattle.rt_model.proofs.PartsAfter.{SlotsThere, task-keeps, other-keeps, own-made, other-made, slots-made, thread-own, thread-other, thread-phase}
-use Rattle.rt_model.proofs.Routes.{goes_on-holds}
-use Rattle.rt_model.proofs.TaskStates.{queued_waits, waits_as, rested-states, rested-set}
-use Rattle.rt_model.proofs.Waiters.{blocking, asks-awaited, idle-blocked, start-blocked, slow-blocked, queued-awake, walk-phase}
+use Rattle.rt_model.proofs.TaskStates.{queued_waits, waits_as, rested-states, rested-set, falls_asleep, IsUp, IsElse, up-as, else-up, else-or-reading}
+use Rattle.rt_model.proofs.Waiters.{blocking, asks-awaited, idle-blocked, start-blocked, slow-blocked, queued-awake}
 use Rattle.rt_model.proofs.Within.{task_room, owner_within, rows_within}
-use Rattle.rt_model.proofs.events.Acquire.{AsksBy, from_start, from_reading, AcquiresIn, by_asking, by_trying, IsTake, TakesIn, from_slow, from_wait, from_trying, is_fast, is_mark, is_take, is_busy}
-use Rattle.rt_model.proofs.events.Readers.{IsMade, is_read, is_tryread, is_let_in, is_shut, is_tryshut, is_out, is_wwake, is_unbias, is_in, is_sleep, is_given_up, is_in_late, is_sleep_again, is_opened, is_downgraded, reading-holds}
+use Rattle.rt_model.proofs.events.Acquire.{IsTake, TakesIn, from_slow, from_wait, from_trying, is_fast, is_mark, is_take, is_busy}
+use Rattle.rt_model.proofs.events.Readers.{IsMade, IsReading, is_read, is_tryread, is_let_in, is_shut, is_tryshut, is_out, is_wwake, is_unbias, is_in, is_sleep, is_given_up, is_in_late, is_sleep_again, is_opened, is_downgraded, reading-holds}
 use Rattle.rt_model.proofs.events.Wait.{IsWait, IsAgain, is_wait, is_again, is_leave}
 use Rattle.rt_model.proofs.events.Release.{IsGive, is_free, is_give}
 use Rattle.rt_model.proofs.events.Wakeups.{IsState, IsSched, is_state, is_sched, is_wake, is_signal}
@@ -101,122 +92,15 @@ tracked_at s t = record { seen = place_at s t; flat = flat_at (task_part s t) }
 
 -- ---- who sleeps for readers
 
--- an event of this kind is a writer's that has slept, or goes to sleep
+-- an event of this kind is a writer's that gets in, or goes to sleep
 abbrev of_sleeper : EventKind → Bool
 of_sleeper kinds.WTake = true
 of_sleeper kinds.WSleep = true
 of_sleeper _ = false
 
--- any other is made by a task that doesn't sleep for readers
-module _ (s : State) (t : TaskId) where
-  abbrev IsUp : Type 0
-  IsUp = has_slept (thread_part s t).phase ≡ false
-
-  up-asks : (l : LockId) → AsksBy s t l → IsUp
-  up-asks l (from_start asks unheld) = ap has_slept asks.at.phased
-  up-asks l (from_reading asks) = ap has_slept asks.at.phased
-
-  up-acquires : (l : LockId) → AcquiresIn s t l → IsUp
-  up-acquires l (by_asking asks) = up-asks l asks
-  up-acquires l (by_trying tries) = ap has_slept tries.at.phased
-
-  up-takes : (l : LockId) → TakesIn s t l → IsUp
-  up-takes l (from_slow asks) = ap has_slept asks.at.phased
-  up-takes l (from_wait asks awake) = ap has_slept asks.at.phased
-  up-takes l (from_trying tries) = ap has_slept tries.at.phased
-
-  up-returns : (l : LockId) (call : Call) → ReturnsBy s t l call → IsUp
-  up-returns l call (from_hold releases at held) = ap has_slept at.phased
-  up-returns l call (from_inside ends at) = ap has_slept at.phased
-
-  up-before : (e : Event) → IsNext s t e → of_sleeper e.kind ≡ false → IsUp
-  up-before e (by_own call answer is) kind = ap has_slept is.at.phased
-  up-before e (by_acquire l (is_fast is)) kind = up-acquires l is.how
-  up-before e (by_acquire l (is_mark is)) kind = up-asks l is.how
-  up-before e (by_acquire l (is_take is)) kind = up-takes l is.how
-  up-before e (by_acquire l (is_busy is)) kind = ap has_slept is.at.at.phased
-  up-before e (by_wait l (is_wait is)) kind = ap has_slept is.at.at.phased
-  up-before e (by_wait l (is_again is)) kind = ap has_slept is.at.at.phased
-  up-before e (by_wait l (is_leave is)) kind = ap has_slept is.at.phased
-  up-before e (by_release l (is_free is)) kind = up-returns l is.at.call is.at.by
-  up-before e (by_release l (is_give is)) kind = up-returns l is.at.call is.at.by
-  up-before e (by_walk route u (is_walk l key is)) kind = ap has_slept (walk-phase s t route u is.how)
-  up-before e (by_walk route u (is_walkend is)) kind = ap has_slept (walk-phase s t route u is.how)
-  up-before e (by_confirm l path (is_restart link is)) kind = ap has_slept is.at.at.phased
-  up-before e (by_confirm l path (is_cycle is)) kind = ap has_slept is.at.at.phased
-  up-before e (by_wakeup is) kind = ap has_slept (wakeup-at s t e is).1.phased
-  up-before e (by_setprio u prio is) kind = ap has_slept is.at.phased
-  up-before e (by_reading l is) kind =
-      reading-holds (λ phase x. of_sleeper x.kind ≡ false → has_slept phase ≡ false) s t l e is
-      (record {
-        read = λ k. refl; let_in = λ k. refl; shut = λ k. refl; tryshut = λ k. refl; out = λ k. refl; wwake = λ k. refl; unbias = λ k. refl;
-        written = λ k. cc; late = λ k. cc; sleep = λ k. cc; again = λ k. cc; given_up = λ k. refl; opened = λ k. refl; downgraded = λ k. refl;
-      }) kind
-
--- and leaves it so
-got-up : (call : Option Call) (phase : Phase) → has_slept phase ≡ false → has_slept (phase_after_got call phase) ≡ false
-got-up (Some (calls.Read l)) phase up = refl
-got-up (Some (calls.Write l)) phase up = refl
-got-up (Some (calls.TryWrite l)) phase up = refl
-got-up _ phase up = up
-
-busy-up : (call : Option Call) (phase : Phase) → has_slept phase ≡ false → has_slept (phase_after_busy call phase) ≡ false
-busy-up (Some (calls.Read l)) phase up = refl
-busy-up _ phase up = up
-
-wait-up : (t : TaskId) (l : Option LockId) (owner : Option TaskId) (blocked : Bool) → has_slept (phase_after_wait t l owner blocked) ≡ false
-wait-up t (Some l) (Some o) true = refl
-wait-up t _ _ _ = refl
-
-rin-up : (phase : Phase) → has_slept phase ≡ false → has_slept (phase_after_rin phase) ≡ false
-rin-up phases.ReadIn up = refl
-rin-up _ up = up
-
-ended-up : (route : Route) → has_slept (phase_of_walk route None) ≡ false
-ended-up (Full path) = refl
-ended-up (Short answer) = refl
-
-walked-up : (t : TaskId) (route onward : Route) (owner : Option TaskId) (task : TaskPart) → has_slept (phase_of_walk route (goes_on t onward owner task)) ≡ false
-walked-up t route onward owner task = goes_on-holds (λ next. has_slept (phase_of_walk route next) ≡ false) t onward owner task (ended-up route) (λ path is own blocked. refl) (λ o rest some stands. refl)
-
-link-up : (t : TaskId) (l : Option LockId) (owner : Option TaskId) (task : TaskPart) (phase : Phase) → has_slept phase ≡ false → has_slept (phase_after_link t l owner task phase) ≡ false
-link-up t (Some l) owner task (phases.Walk u route) up = walked-up t route _ owner task
-link-up t _ owner task _ up = up
-
-end-up : (phase : Phase) → has_slept phase ≡ false → has_slept (phase_after_end phase) ≡ false
-end-up (phases.Walk u route) up = ended-up route
-end-up _ up = up
-
-up-left : (kind : EventKind) (e : Event) (th : ThreadPart) (found left : Around) → of_sleeper kind ≡ false → has_slept th.phase ≡ false → has_slept ((effect kind e th found).thread left th).phase ≡ false
-up-left kinds.WTake e th found left is up = cc
-up-left kinds.WSleep e th found left is up = cc
-up-left kinds.Fast e th found left is up = got-up (call_of th) th.phase up
-up-left kinds.Take e th found left is up = got-up (call_of th) th.phase up
-up-left kinds.Mark e th found left is up = refl
-up-left kinds.Busy e th found left is up = busy-up (call_of th) th.phase up
-up-left kinds.Wait e th found left is up = wait-up e.task e.lock e.owner (is_some found.owner.blocked)
-up-left kinds.Leave e th found left is up = walked-up e.task (Short Interrupted) (Short Interrupted) e.owner left.owner
-up-left kinds.Cycle e th found left is up = walked-up e.task (Short Deadlock) (Short Deadlock) (first_owner e.path) left.owner
-up-left kinds.Walk e th found left is up = link-up e.task e.lock e.owner left.owner th.phase up
-up-left kinds.WalkEnd e th found left is up = end-up th.phase up
-up-left kinds.Restart e th found left is up = refl
-up-left kinds.SetPrio e th found left is up = walked-up e.task (Short Done) (Short Done) e.other left.other
-up-left kinds.RIn e th found left is up = rin-up th.phase up
-up-left kinds.ROut e th found left is up = cond_both (wakes_writer left.readers) phases.WakeWriter th.phase (λ (p : Phase). has_slept p ≡ false) (λ last. refl) (λ more. up)
-up-left kinds.Unbias e th found left is up = refl
-up-left kinds.WOpen e th found left is up = refl
-up-left _ e th found left is up = up
-
-answer-up : (thread : ThreadPart) (reply : Option Reply) → has_slept thread.phase ≡ false → has_slept (answered_with thread reply).phase ≡ false
-answer-up thread None up = up
-answer-up thread (Some answer) up = refl
-
-up-after : (s : State) (e : Event) → e.task.0 < length s.threads → of_sleeper e.kind ≡ false → has_slept (thread_part s e.task).phase ≡ false → has_slept (thread_part (state_after s e) e.task).phase ≡ false
-up-after s e lt kind up =
-    let th = thread_part s e.task in
-    let left = around (shared_after (shared s) th e) (touched e.kind e) in
-    ap (λ (thread : ThreadPart). has_slept thread.phase) (thread-own s e e refl lt)
-    ∙ answer-up ((effect_in (shared s) th e).thread left th) e.reply (up-left e.kind e th (around (shared s) (touched e.kind e)) left kind up)
+stays : (kind : EventKind) → of_sleeper kind ≡ false → falls_asleep kind ≡ false
+stays kinds.WSleep quiet = cc
+stays _ quiet = refl
 
 -- ---- which event changes a task's states
 
@@ -330,11 +214,25 @@ module _ (s : State) (made : ℕ) (e : Event) (lawful : IsLawful s made) (next :
   abbrev waits_then : Bool
   waits_then = waits_in (thread_part (state_after s e) e.task) (task_part (state_after s e) e.task)
 
+  -- the task of an event of another kind sleeps for readers neither before nor after
+  up : of_sleeper e.kind ≡ false → IsUp s e.task e
+  up quiet = either (else-or-reading s made e.task e lawful next)
+    where
+      either : IsElse s e.task e ⊎ ((l : LockId) × IsReading s e.task l e) → IsUp s e.task e
+      either (inl is) = else-up s made e.task e lawful next is
+      either (inr (l, is)) =
+          up-as s made e.task e lawful next e refl (stays e.kind quiet)
+          (reading-holds (λ phase x. of_sleeper x.kind ≡ false → has_slept phase ≡ false) s e.task l e is
+          (record {
+            read = λ k. refl; let_in = λ k. refl; shut = λ k. refl; tryshut = λ k. refl; out = λ k. refl; wwake = λ k. refl; unbias = λ k. refl;
+            written = λ k. cc; late = λ k. cc; sleep = λ k. cc; again = λ k. cc; given_up = λ k. refl; opened = λ k. refl; downgraded = λ k. refl;
+          }) quiet)
+
   still_waits : changes_own e.kind ≡ false → of_sleeper e.kind ≡ false → waiting_after e.kind waited ≡ waits_then
   still_waits kept quiet =
-      let up = up-before s e.task e next quiet in
+      let awake = up quiet in
       let queued = queued-same (task_part s e.task).blocked (task_part (state_after s e) e.task).blocked (blocking-kept s e e e.task refl kept) in
-      waiting-kept e.kind waited kept quiet ∙ λ i. sym queued i || (up ∙ sym (up-after s e there quiet up)) i
+      waiting-kept e.kind waited kept quiet ∙ λ i. sym queued i || (awake.before ∙ sym awake.after) i
 
   -- of one that comes about as x
   waits_by : (x : Event) → e ≡ x → changes_own x.kind ≡ false → of_sleeper x.kind ≡ false → waiting_after e.kind waited ≡ waits_then
@@ -349,8 +247,7 @@ module _ (s : State) (made : ℕ) (e : Event) (lawful : IsLawful s made) (next :
 
   left_queue_then : (x : Event) → e ≡ x → waiting_after x.kind waited ≡ false → of_sleeper x.kind ≡ false → (task_part (state_after s e) e.task).blocked ≡ None → waiting_after e.kind waited ≡ waits_then
   left_queue_then x is ends other none =
-      let quiet = ap (λ (y : Event). of_sleeper y.kind) is ∙ other in
-      waits_no_more x is ends none (up-after s e there quiet (up-before s e.task e next quiet))
+      waits_no_more x is ends none (up (ap (λ (y : Event). of_sleeper y.kind) is ∙ other)).after
 
   -- a writer that gets in is blocked on nothing, and its call is answered
   writer_waits : (l : LockId) (phase : Phase) (call : Call) (slept : Option TaskId) → IsMade s e.task l phase call (wtake_event e.task l slept) e → awaited_in phase (called_lock (thread_part s e.task).cpu call) ≡ None

@@ -5,11 +5,11 @@ ghost use Rattle.rt_model.specs.Footprint.{same_object, owner_parts, reader_part
 ghost use Rattle.rt_model.specs.Rules.{touched};
 ghost use Rattle.rt_model.specs.Path.{first_owner};
 ghost use Rattle.rt_model.specs.events.Acquire.{busy_touched};
-ghost use Rattle.rt_model.specs.events.Readers.{where_slept};
 ghost use Rattle.rt_model.specs.declared.obj.Obj.{Obj};
 ghost use Rattle.rt_events.specs.Touched.{path_tasks, walked_tasks, TellsAny};
 
 use crate::first_link::first_owner;
+use crate::writer::slept;
 use rt_base::{LockId, Path, TaskId};
 use rt_model::{Event, EventKind, Obj};
 
@@ -117,16 +117,6 @@ fn any_looked_at<F: Fn(Obj) -> bool>(e: &Event, test: &F) -> bool
         any_owner_part(e.lock, test)
     } else {
         any_owner_part(e.lock, test) || any_task(Some(e.task), test)
-    }
-}
-
-// The task of a writer's event, where it has slept: it is named as the owner then.
-fn slept(e: &Event) -> Option<TaskId>
-    ensures { result ≡ where_slept e.now.task e.now.owner }
-{
-    match e.owner {
-        Some(_) => Some(e.task),
-        None => None,
     }
 }
 

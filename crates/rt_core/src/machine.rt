@@ -27,7 +27,7 @@ use crate::enabled::Enabled;
 use crate::note::{Note, blocked_note, readers_note};
 use crate::playable::is_playable;
 use crate::report::{write_lock_line, write_task_line};
-use rt_base::limits::{LINE_LIMIT, MAX_TASKS};
+use rt_base::limits::{LINE_LIMIT, MAX_CALLS, MAX_TASKS};
 use rt_base::{Call, Kind, LockId, NoMemory, Prio, TaskId, TaskState};
 use rt_choice::{confirmed_event, event_of, next_of};
 use rt_locks::LockCell;
@@ -156,10 +156,11 @@ impl Core {
         self.shared.lock(l)
     }
 
-    /// A lock's reader part. A lock without readers has the one that all have at the start.
+    /// The reader part of a reader/writer lock. It counts no more readers than a script may have calls.
     pub fn readers(&self, l: LockId) -> ReaderCell
         requires { l.0 < length self.now.state.locks }
-        ensures { result ≡ reader_part self.now.state l }
+        ensures part { result ≡ reader_part self.now.state l }
+        ensures few { result.count ≤ MAX_CALLS }
     {
         self.shared.readers(l)
     }

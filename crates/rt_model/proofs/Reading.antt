@@ -19,6 +19,7 @@ use Rattle.rt_model.specs.StateAfter.{shared_after, thread_after, state_after}
 use Rattle.rt_model.specs.steps.Readers.{wakes_writer, without_reader}
 use Rattle.rt_model.specs.steps.Thread.{phase_after_busy, answered_with}
 use Rattle.rt_model.specs.events.Readers.{phase_after_rin, rout_event}
+use Rattle.rt_model.specs.laws.Queued.{awaited_in}
 use Rattle.rt_model.proofs.Blocked.{moves, blocked-kept}
 use Rattle.rt_model.proofs.Calling.{IsIn, EndsInner, of_read, of_trywrite, of_unwrite, of_downgrade, Writes}
 use Rattle.rt_model.proofs.PartsAfter.{locks-kept, thread-own, thread-made}
@@ -59,6 +60,12 @@ is_idle phases.Wait = false
 is_idle (phases.Walk cursor route) = false
 is_idle (phases.Confirm path) = false
 is_idle _ = true
+
+pub idle-awaits : (phase : Phase) (lock : Option LockId) → is_idle phase ≡ true → awaited_in phase lock ≡ None
+idle-awaits phases.Wait lock is = cc
+idle-awaits (phases.Walk cursor route) lock is = cc
+idle-awaits (phases.Confirm path) lock is = cc
+idle-awaits _ lock is = refl
 
 -- ---- its own thread
 

@@ -1,12 +1,11 @@
 -- Acquires: how they come about, and that their choice reads only what they touch.
-use Rattle.std.proofs.Common.{◌≡◌, ◌⊎◌, inl, inr, ◌<◌, length, Bool, true, false, cond, not, ◌&&◌, refl, sym, ap, ◌∙◌, subst, Option, Some, None, is_none}
+use Rattle.std.proofs.Common.{◌≡◌, ◌⊎◌, inl, inr, ◌<◌, length, Bool, true, false, cond, not, ◌&&◌, refl, sym, ap, ◌∙◌, Option, Some, None, is_none}
 use Rattle.rt_base.specs.declared.call.Call.{Call}
 use Rattle.rt_base.specs.declared.call.Call.TheVariants as calls
 use Rattle.rt_base.specs.declared.id.Cpu.{Cpu}
 use Rattle.rt_base.specs.declared.id.LockId.{LockId}
 use Rattle.rt_base.specs.declared.id.TaskId.{TaskId}
 use Rattle.rt_base.specs.declared.kind.Kind.{Kind}
-use Rattle.rt_base.specs.declared.reply.Reply.TheVariants.{Got}
 use Rattle.rt_model.specs.declared.event.Event.{Event}
 use Rattle.rt_model.specs.declared.obj.Obj.TheVariants as objects
 use Rattle.rt_model.specs.declared.phase.Phase.{Phase}
@@ -15,7 +14,6 @@ use Rattle.rt_model.specs.Parts.{OwnerPart, TaskPart, call_of, hold_of, kind_of}
 use Rattle.rt_model.specs.Rows.{can_take}
 use Rattle.rt_model.specs.Choice.{called_lock}
 use Rattle.rt_model.specs.State.{State, Shared, lock_in, task_in, owner_part, task_part, thread_part}
-use Rattle.rt_model.specs.steps.Thread.{got_answer, with_hold, holds_after}
 use Rattle.rt_model.specs.Footprint.{touches}
 use Rattle.rt_model.specs.events.Wait.{is_awake}
 use Rattle.rt_model.specs.events.Acquire.{fast_event, mark_event, is_free, acquire_event, take_event, take_or, busy_event, try_event}
@@ -154,13 +152,6 @@ acquiring-holds P call l (inr tries) lock lockint spin trylock tryspin read writ
 
 pub acquiring-called : (cpu : Cpu) (call : Call) (l : LockId) → IsAcquireOf l call → called_lock cpu call ≡ Some l
 acquiring-called cpu call l is = acquiring-holds (λ c. called_lock cpu c ≡ Some l) call l is refl refl refl refl refl refl refl refl
-
--- with the answer got it holds the lock
-pub got-holds : (s : State) (t : TaskId) (l : LockId) → IsAcquiring s t l → got_answer (call_of (thread_part s t)) ≡ Some Got → holds_after (thread_part s t) (call_of (thread_part s t)) Got ≡ with_hold (thread_part s t) l true
-got-holds s t l is got =
-    subst (λ (c : Option Call). holds_after (thread_part s t) c Got ≡ with_hold (thread_part s t) l true) (sym is.calling)
-    (acquiring-holds (λ c. got_answer (Some c) ≡ Some Got → holds_after (thread_part s t) (Some c) Got ≡ with_hold (thread_part s t) l true) is.call l is.acquires
-    (λ g. refl) (λ g. refl) (λ g. refl) (λ g. refl) (λ g. refl) (λ g. cc) (λ g. cc) (λ g. cc) (subst (λ (c : Option Call). got_answer c ≡ Some Got) is.calling got))
 
 -- ---- what the choice reads
 

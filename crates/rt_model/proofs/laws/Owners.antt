@@ -42,7 +42,7 @@ use Rattle.rt_model.proofs.Calling.{IsIn, Tries, tries-holds, Returns, ReturnsBy
 use Rattle.rt_model.proofs.ToCome.{to_come-holds}
 use Rattle.rt_model.proofs.Waiters.{walk-phase}
 use Rattle.rt_model.proofs.events.Acquire.{is_fast, is_mark, is_take, is_busy, AsksBy, from_start, from_reading, IsAcquiring, fast-acquiring, take-acquiring, acquiring-holds, acquiring-called}
-use Rattle.rt_model.proofs.events.Own.{IsOwn}
+use Rattle.rt_model.proofs.events.Own.{IsOwn, read-holds, write-holds}
 use Rattle.rt_model.proofs.Reading.{reading-kind}
 use Rattle.rt_model.proofs.events.Readers.{IsReading, IsMade, is_read, is_tryread, is_let_in, is_shut, is_tryshut, is_out, is_wwake, is_unbias, is_in, is_sleep, is_given_up, is_in_late, is_sleep_again, is_opened, is_downgraded, reading-in, reading-task}
 use Rattle.rt_model.proofs.events.Walk.{is_walk, is_walkend, is_restart, is_cycle}
@@ -97,10 +97,8 @@ private-refuses (calls.Lock l) kind nested held migration = nested_refuses neste
 private-refuses (calls.LockInt l) kind nested held migration = nested_refuses nested (if_held held) (held_refuses held)
 private-refuses (calls.Spin l) kind nested held migration = held_refuses held
 private-refuses (calls.Local l) kind nested held migration = held_refuses held
-private-refuses (calls.Read l) (Some locks.RwSem) nested held migration = nested_refuses nested (if_held held) (held_refuses held)
-private-refuses (calls.Read l) kind nested held migration = held_refuses held
-private-refuses (calls.Write l) (Some locks.RwSem) nested held migration = nested_refuses nested (if_held held) (held_refuses held)
-private-refuses (calls.Write l) kind nested held migration = held_refuses held
+private-refuses (calls.Read l) kind nested held migration = read-holds Refuses l kind nested held migration (nested_refuses nested (if_held held) (held_refuses held)) (held_refuses held)
+private-refuses (calls.Write l) kind nested held migration = write-holds Refuses l kind nested held migration (nested_refuses nested (if_held held) (held_refuses held)) (held_refuses held)
 private-refuses (calls.Unlock l) kind nested held migration = unheld_refuses held
 private-refuses (calls.Unspin l) kind nested held migration = unheld_refuses held
 private-refuses (calls.Unread l) kind nested held migration = unheld_refuses held

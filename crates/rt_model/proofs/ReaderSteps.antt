@@ -69,9 +69,9 @@ fewer : (s : State) (made : ℕ) (t : TaskId) (l : LockId) (phase : Phase) (call
 fewer s made t l phase call lawful at not_yet =
     let nobody : coming (thread_part s t) l ≡ 0 = none-comes l (thread_part s t) (lawful.readers.within t) (lawful.readers.few l t) ((λ i. has_come (at.phased i) (at.calling i)) ∙ not_yet) in
     let all : sum (map (λ (thread : ThreadPart). readers_by thread l) s.threads) < calls_of s.threads =
-        sum-less (λ (thread : ThreadPart). readers_by thread l) (λ (thread : ThreadPart). length thread.calls) no_thread s.threads t.0
-        (λ i. readers-most l (thread_part s (record { 0 = i })) (lawful.readers.within (record { 0 = i })) (lawful.readers.few l (record { 0 = i }))) at.task
-        (readers-less l (thread_part s t) (lawful.readers.within t) (lawful.readers.few l t) call at.calling nobody) in
+    sum-less (λ (thread : ThreadPart). readers_by thread l) (λ (thread : ThreadPart). length thread.calls) no_thread s.threads t.0
+    (λ i. readers-most l (thread_part s (record { 0 = i })) (lawful.readers.within (record { 0 = i })) (lawful.readers.few l (record { 0 = i }))) at.task
+    (readers-less l (thread_part s t) (lawful.readers.within t) (lawful.readers.few l t) call at.calling nobody) in
     omega (arith, all, lawful.readers.count l, lawful.shape.few_calls)
 
 -- ---- what an event finds
@@ -108,9 +108,10 @@ module _ (s : State) (made : ℕ) (t : TaskId) (e : Event) (lawful : IsLawful s 
       → (seen_in s made t lawful l phase call).inside ≡ true → ((reader_part s l).bias ≡ false) × ((reader_part s l).writer ≡ false)
   unbiased-finds l phase call x is about closing inside =
       let facts = facts-at l phase call x is about in
-      let has = or_right (held l) (seen_in s made t lawful l phase call).inside inside in
-      (facts.bias has ∙ ap (λ (b : Bool). not (b || rw l && held l && not (seen_in s made t lawful l phase call).inside)) closing,
-       facts.writer has ∙ (ap (λ (b : Bool). rw l && held l && not b) inside ∙ out (rw l) (held l)))
+      let has = or_right (held l) (seen_in s made t lawful l phase call).inside inside in (
+        facts.bias has ∙ ap (λ (b : Bool). not (b || rw l && held l && not (seen_in s made t lawful l phase call).inside)) closing,
+        facts.writer has ∙ (ap (λ (b : Bool). rw l && held l && not b) inside ∙ out (rw l) (held l)),
+      )
 
   -- one that is in finds the bias off, and the write flag set
   written-finds : (l : LockId) (call : Call) (x : Event) → IsMade s t l phases.Start call x e → called_lock (thread_part s t).cpu call ≡ Some l → (IsForKind (thread_part s t).kinds call → HasReadersAt (thread_part s t).kinds l.0) → held l ≡ true

@@ -24,8 +24,26 @@ use Rattle.rt_model.proofs.Blocked.{moves, blocked-kept}
 use Rattle.rt_model.proofs.Calling.{IsIn, EndsInner, of_read, of_trywrite, of_unwrite, of_downgrade, Writes}
 use Rattle.rt_model.proofs.PartsAfter.{locks-kept, thread-own, thread-made}
 use Rattle.rt_model.proofs.events.Readers.{
-  IsMade, IsReading, is_read, is_tryread, is_let_in, is_shut, is_tryshut, is_out, is_wwake, is_unbias, is_in, is_sleep, is_given_up, is_in_late, is_sleep_again, is_opened, is_downgraded,
-  reading-in, reading-holds, reading-task,
+  IsMade,
+  IsReading,
+  is_read,
+  is_tryread,
+  is_let_in,
+  is_shut,
+  is_tryshut,
+  is_out,
+  is_wwake,
+  is_unbias,
+  is_in,
+  is_sleep,
+  is_given_up,
+  is_in_late,
+  is_sleep_again,
+  is_opened,
+  is_downgraded,
+  reading-in,
+  reading-holds,
+  reading-task,
 }
 
 -- what holds of the kinds of these events
@@ -44,8 +62,20 @@ pub reading-kind : (P : EventKind → Type 0) (s : State) (t : TaskId) (l : Lock
 reading-kind P s t l e is each =
     reading-holds (λ phase x. P x.kind) s t l e is
     (record {
-      read = each.rin; let_in = each.rin; shut = each.busy; tryshut = each.busy; out = each.rout; wwake = each.wwake; unbias = each.unbias; written = each.wtake; late = each.wtake;
-      sleep = each.wsleep; again = each.wsleep; given_up = each.wopen; opened = each.wopen; downgraded = each.wopen;
+      read = each.rin;
+      let_in = each.rin;
+      shut = each.busy;
+      tryshut = each.busy;
+      out = each.rout;
+      wwake = each.wwake;
+      unbias = each.unbias;
+      written = each.wtake;
+      late = each.wtake;
+      sleep = each.wsleep;
+      again = each.wsleep;
+      given_up = each.wopen;
+      opened = each.wopen;
+      downgraded = each.wopen;
     })
 
 pub reading-lock : (s : State) (t : TaskId) (l : LockId) (e : Event) → IsReading s t l e → e.lock ≡ Some l

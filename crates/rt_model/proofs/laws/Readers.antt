@@ -363,7 +363,7 @@ module _ (s : State) (made : ℕ) (t : TaskId) (lawful : IsLawful s made) where
       -- it goes on in another phase
       goes : (x : Event) (onward : Phase) (cell : ReaderCell) → IsEvent x (record th { phase = onward }) → Cells l cell
           → (Facts (seen_in l phase call) (reader_part s l)
-              → Turn (seen_in l phase call) (seen_in l onward call) (reader_part s l) cell) → ReadersLaw (state_after s e)
+          → Turn (seen_in l phase call) (seen_in l onward call) (reader_part s l) cell) → ReadersLaw (state_after s e)
       goes x onward cell event cells here =
           turns-at x (record th { phase = onward }) cell event cells
           (λ known. subst (λ (a : Look). Turn (seen_in l phase call) a (reader_part s l) cell) (sym (seen l phase call at about onward)) (here known))
@@ -372,7 +372,7 @@ module _ (s : State) (made : ℕ) (t : TaskId) (lawful : IsLawful s made) where
       -- or is answered, and holds the lock so
       ends : (x : Event) (p : Phase) (answer : Reply) (hold : Hold) (cell : ReaderCell) → IsEvent x (answered_with (record th { phase = p }) (Some answer)) → Holding th l hold (holds_after (record th { phase = p }) (Some call) answer) → Cells l cell
           → (Facts (seen_in l phase call) (reader_part s l)
-              → Turn (seen_in l phase call) (after_at l hold) (reader_part s l) cell) → ReadersLaw (state_after s e)
+          → Turn (seen_in l phase call) (after_at l hold) (reader_part s l) cell) → ReadersLaw (state_after s e)
       ends x p answer hold cell event holding cells here =
           turns-at x left cell event cells
           (λ known. subst (λ (h : Hold). Turn (seen_in l phase call) (after_at l h) (reader_part s l) cell) (sym (held l ∙ holding.here)) (here known))
@@ -553,7 +553,7 @@ module _ (s : State) (made : ℕ) (t : TaskId) (lawful : IsLawful s made) where
     gets_in : (l : LockId) (phase : Phase) (call : Call) (x : Event) → Writes call l → IsMade s t l phase call x e → x.task ≡ t → thread_after (shared s) (thread_part s x.task) x ≡ answered_with th (Some replies.Got)
         → Cells l (with_writer (reader_part s l))
         → (Facts (seen_in l phase call) (reader_part s l) → has_readers (kind_of th l) ≡ true
-            → Turn (seen_in l phase call) (after_at l (record (hold_of th l) { owns = true })) (reader_part s l) (with_writer (reader_part s l)))
+        → Turn (seen_in l phase call) (after_at l (record (hold_of th l) { owns = true })) (reader_part s l) (with_writer (reader_part s l)))
         → ReadersLaw (state_after s e)
     gets_in l phase call x writes is own left cells turn =
         let about : called_lock th.cpu call ≡ Some l = writes-called th.cpu call l writes in

@@ -141,8 +141,20 @@ quiet-reading : (s : State) (t : TaskId) (l : LockId) (e : Event) → IsReading 
 quiet-reading s t l e is =
     reading-holds (λ phase x. Quiet x.reply) s t l e is
     (record {
-      read = refl; let_in = refl; shut = refl; tryshut = refl; out = cond_both (wakes_writer (without_reader (reader_part s l))) None (Some replies.Done) Quiet (λ last. refl) (λ more. refl); wwake = refl; unbias = refl;
-      written = refl; late = refl; sleep = refl; again = refl; given_up = refl; opened = refl; downgraded = refl;
+      read = refl;
+      let_in = refl;
+      shut = refl;
+      tryshut = refl;
+      out = cond_both (wakes_writer (without_reader (reader_part s l))) None (Some replies.Done) Quiet (λ last. refl) (λ more. refl);
+      wwake = refl;
+      unbias = refl;
+      written = refl;
+      late = refl;
+      sleep = refl;
+      again = refl;
+      given_up = refl;
+      opened = refl;
+      downgraded = refl;
     })
 
 -- a walk's answer is one that was to come

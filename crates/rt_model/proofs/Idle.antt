@@ -1,5 +1,5 @@
 -- Tasks that wait for no owner part and don't walk: who asks for a lock, releases one, reads or writes.
-use Rattle.std.proofs.Common.{◌≡◌, ℕ, true, ap, ◌∙◌, None}
+use Rattle.std.proofs.Common.{◌≡◌, ℕ, true, ap, ◌∙◌, None, refl}
 use Rattle.rt_base.specs.declared.id.LockId.{LockId}
 use Rattle.rt_base.specs.declared.id.TaskId.{TaskId}
 use Rattle.rt_model.specs.Choice.{present_lock}
@@ -8,7 +8,7 @@ use Rattle.rt_model.specs.laws.Lawful.{IsLawful}
 use Rattle.rt_model.proofs.Calling.{ReturnsBy, from_hold, from_inside, Returns}
 use Rattle.rt_model.proofs.Reading.{is_idle, idle-awaits}
 use Rattle.rt_model.proofs.Waiters.{not_blocking}
-use Rattle.rt_model.proofs.events.Acquire.{AsksBy, from_start, from_reading, AcquiresIn, by_asking, by_trying}
+use Rattle.rt_model.proofs.events.Acquire.{asks-phased, fast-phased, AsksBy, AcquiresIn}
 
 -- the task is so
 abbrev pub IsIdle : State → TaskId → Type 0
@@ -16,12 +16,10 @@ IsIdle s t = is_idle (thread_part s t).phase ≡ true
 
 module _ (s : State) (t : TaskId) (l : LockId) where
   pub asks-idle : AsksBy s t l → IsIdle s t
-  asks-idle (from_start asks unheld) = ap is_idle asks.at.phased
-  asks-idle (from_reading asks) = ap is_idle asks.at.phased
+  asks-idle how = asks-phased (λ phase. is_idle phase ≡ true) s t l how refl refl
 
   pub acquires-idle : AcquiresIn s t l → IsIdle s t
-  acquires-idle (by_asking how) = asks-idle how
-  acquires-idle (by_trying at) = ap is_idle at.at.phased
+  acquires-idle how = fast-phased (λ phase. is_idle phase ≡ true) s t l how refl refl
 
   pub returns-idle : Returns s t l → IsIdle s t
   returns-idle is = by_how is.by

@@ -48,7 +48,7 @@ use Rattle.rt_model.proofs.PartsAfter.{OthersKeep, changes_readers, thread-own}
 use Rattle.rt_model.proofs.Reading.{reading-was_idle}
 use Rattle.rt_model.proofs.Routes.{goes_on-holds}
 use Rattle.rt_model.proofs.Waiters.{blocking, walk-phase}
-use Rattle.rt_model.proofs.events.Acquire.{AsksBy, from_start, from_reading, AcquiresIn, by_asking, by_trying, TakesIn, from_slow, from_wait, from_trying, is_fast, is_mark, is_take, is_busy}
+use Rattle.rt_model.proofs.events.Acquire.{asks-phased, fast-phased, take-phased, is_fast, is_mark, is_take, is_busy}
 use Rattle.rt_model.proofs.events.Readers.{IsReading}
 use Rattle.rt_model.proofs.events.Release.{is_free, is_give}
 use Rattle.rt_model.proofs.events.Wait.{is_wait, is_again, is_leave}
@@ -425,21 +425,14 @@ module _ (s : State) (made : ℕ) (t : TaskId) (e : Event) (lawful : IsLawful s 
   pub else-up : IsElse s t e → IsUp s t e
   else-up is = up-as e refl (else-stays e.kind is.kind) (else-awake (thread_part s t).phase is.phase)
 
-  other : (x : Event) (phase : Phase) → e ≡ x → of_readers x.kind ≡ false → (thread_part s t).phase ≡ phase → at_readers phase ≡ false → IsElse s t e
-  other x phase is kind at before = record { phase = ap at_readers at ∙ before; kind = ap (λ (y : Event). of_readers y.kind) is ∙ kind }
+  abbrev IsAway : Phase → Type 0
+  IsAway phase = at_readers phase ≡ false
 
-  else-asks : (x : Event) (l : LockId) → e ≡ x → of_readers x.kind ≡ false → AsksBy s t l → IsElse s t e
-  else-asks x l is kind (from_start asks unheld) = other x _ is kind asks.at.phased refl
-  else-asks x l is kind (from_reading asks) = other x _ is kind asks.at.phased refl
+  away : (x : Event) → e ≡ x → of_readers x.kind ≡ false → IsAway (thread_part s t).phase → IsElse s t e
+  away x is kind phase = record { phase = phase; kind = ap (λ (y : Event). of_readers y.kind) is ∙ kind }
 
-  else-acquires : (x : Event) (l : LockId) → e ≡ x → of_readers x.kind ≡ false → AcquiresIn s t l → IsElse s t e
-  else-acquires x l is kind (by_asking asks) = else-asks x l is kind asks
-  else-acquires x l is kind (by_trying tries) = other x _ is kind tries.at.phased refl
-
-  else-takes : (x : Event) (l : LockId) → e ≡ x → of_readers x.kind ≡ false → TakesIn s t l → IsElse s t e
-  else-takes x l is kind (from_slow asks) = other x _ is kind asks.at.phased refl
-  else-takes x l is kind (from_wait asks awake) = other x _ is kind asks.at.phased refl
-  else-takes x l is kind (from_trying tries) = other x _ is kind tries.at.phased refl
+  other : (x : Event) (phase : Phase) → e ≡ x → of_readers x.kind ≡ false → (thread_part s t).phase ≡ phase → IsAway phase → IsElse s t e
+  other x phase is kind at before = away x is kind (ap at_readers at ∙ before)
 
   else-returns : (x : Event) (l : LockId) (call : Call) → e ≡ x → of_readers x.kind ≡ false → ReturnsBy s t l call → IsElse s t e
   else-returns x l call is kind (from_hold releases at held) = other x _ is kind at.phased refl
@@ -451,9 +444,9 @@ module _ (s : State) (made : ℕ) (t : TaskId) (e : Event) (lawful : IsLawful s 
     where
       by_kind : IsNext s t e → IsElse s t e ⊎ ((l : LockId) × IsReading s t l e)
       by_kind (by_own call answer is) = inl (other _ _ is.event refl is.at.phased refl)
-      by_kind (by_acquire l (is_fast is)) = inl (else-acquires _ l is.event refl is.how)
-      by_kind (by_acquire l (is_mark is)) = inl (else-asks _ l is.event refl is.how)
-      by_kind (by_acquire l (is_take is)) = inl (else-takes _ l is.event refl is.how)
+      by_kind (by_acquire l (is_fast is)) = inl (away _ is.event refl (fast-phased IsAway s t l is.how refl refl))
+      by_kind (by_acquire l (is_mark is)) = inl (away _ is.event refl (asks-phased IsAway s t l is.how refl refl))
+      by_kind (by_acquire l (is_take is)) = inl (away _ is.event refl (take-phased IsAway s t l is.how refl refl refl))
       by_kind (by_acquire l (is_busy is)) = inl (other _ _ is.event refl is.at.at.phased refl)
       by_kind (by_wait l (is_wait is)) = inl (other _ _ is.event refl is.at.at.phased refl)
       by_kind (by_wait l (is_again is)) = inl (other _ _ is.event refl is.at.at.phased refl)

@@ -1,5 +1,5 @@
 -- Acquires: how they come about, and that their choice reads only what they touch.
-use Rattle.std.proofs.Common.{◌≡◌, ◌⊎◌, inl, inr, ◌<◌, length, Bool, true, false, cond, not, ◌&&◌, refl, sym, ap, ◌∙◌, Option, Some, None, is_none}
+use Rattle.std.proofs.Common.{◌≡◌, ◌⊎◌, inl, inr, ◌<◌, length, Bool, true, false, cond, not, ◌&&◌, refl, sym, ap, ◌∙◌, Option, Some, None, is_none, subst}
 use Rattle.rt_base.specs.declared.call.Call.{Call}
 use Rattle.rt_base.specs.declared.call.Call.TheVariants as calls
 use Rattle.rt_base.specs.declared.id.Cpu.{Cpu}
@@ -143,6 +143,20 @@ pub take-acquiring : (s : State) (t : TaskId) (l : LockId) → TakesIn s t l →
 take-acquiring s t l (from_slow asks) = record { call = asks.call; calling = asks.at.calling; acquires = inl asks.waits_for }
 take-acquiring s t l (from_wait asks awake) = record { call = asks.call; calling = asks.at.calling; acquires = inl asks.waits_for }
 take-acquiring s t l (from_trying at) = record { call = at.call; calling = at.at.calling; acquires = inr at.tries_for }
+
+-- what holds of the phases that it may be in holds of its phase
+pub asks-phased : (P : Phase → Type 0) (s : State) (t : TaskId) (l : LockId) → AsksBy s t l → P phases.Start → P phases.Inner → P (thread_part s t).phase
+asks-phased P s t l (from_start asks unheld) start inner = subst P (sym asks.at.phased) start
+asks-phased P s t l (from_reading asks) start inner = subst P (sym asks.at.phased) inner
+
+pub fast-phased : (P : Phase → Type 0) (s : State) (t : TaskId) (l : LockId) → AcquiresIn s t l → P phases.Start → P phases.Inner → P (thread_part s t).phase
+fast-phased P s t l (by_asking how) start inner = asks-phased P s t l how start inner
+fast-phased P s t l (by_trying at) start inner = subst P (sym at.at.phased) start
+
+pub take-phased : (P : Phase → Type 0) (s : State) (t : TaskId) (l : LockId) → TakesIn s t l → P phases.Slow → P phases.Wait → P phases.Start → P (thread_part s t).phase
+take-phased P s t l (from_slow asks) slow wait start = subst P (sym asks.at.phased) slow
+take-phased P s t l (from_wait asks awake) slow wait start = subst P (sym asks.at.phased) wait
+take-phased P s t l (from_trying at) slow wait start = subst P (sym at.at.phased) start
 
 -- what an acquire leaves of a call: the answer got, with the lock held, or the next step of a reader or a writer
 pub acquiring-holds : (P : Call → Type 0) (call : Call) (l : LockId) → IsAcquireOf l call → P (calls.Lock l) → P (calls.LockInt l) → P (calls.Spin l) → P (calls.TryLock l) → P (calls.TrySpin l)

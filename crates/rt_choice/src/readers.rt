@@ -1,6 +1,5 @@
 // Readers and writers of a reader/writer lock: rin, rout, wwake, unbias, wtake, wsleep, wopen.
 ghost use Rattle.std.specs.Prelude.{◌≡◌, if◌then◌else◌};
-ghost use Rattle.rt_model.specs.steps.Readers.{without_reader, wakes_writer, can_write};
 ghost use Rattle.rt_model.specs.events.Readers.{rin_event, shut_event, read_event, tryread_event};
 ghost use Rattle.rt_model.specs.events.Readers.{rout_event, wwake_event, unbias_event, wtake_event};
 ghost use Rattle.rt_model.specs.events.Readers.{wsleep_event, wopen_event, held_up_event, writer_event};
@@ -11,7 +10,7 @@ use crate::event::on_lock;
 use rt_base::{Call, LockId, Reply, TaskId, TaskState};
 use rt_locks::LockCell;
 use rt_model::{EventKind, ReaderCell};
-use rt_rwbase::can_read;
+use rt_rwbase::{can_read, can_write, is_last};
 use rt_tasks::TaskCell;
 
 /// A reader gets in, with this answer, where it has one by that: `rwbase_read_trylock`, and the slow path of
@@ -74,13 +73,6 @@ pub fn rout_event(t: TaskId, l: LockId, readers: ReaderCell) -> Chosen
     }
 }
 
-// Whether a reader that leaves is the last one, and a writer waits for that.
-fn is_last(readers: ReaderCell) -> bool
-    ensures { result ≡ wakes_writer (without_reader readers) }
-{
-    !readers.bias && readers.count <= 1
-}
-
 /// The last reader wakes whoever owns the inner lock then, `__rwbase_read_unlock`.
 pub fn wwake_event(t: TaskId, l: LockId, lock: &LockCell) -> Chosen
     ensures { result ≡ wwake_event t l lock.now.part }
@@ -140,13 +132,6 @@ pub fn writer_event(call: &Call, t: TaskId, l: LockId, readers: ReaderCell) -> C
     } else {
         held_up_event(call, t, l)
     }
-}
-
-// Whether a writer that has removed the bias gets in, as `__rwbase_write_trylock` asks.
-fn can_write(readers: ReaderCell) -> bool
-    ensures { result ≡ can_write readers }
-{
-    readers.count == 0
 }
 
 // Readers are in: a writer that only tries gives up, `rwbase_write_trylock`, and another one sleeps.

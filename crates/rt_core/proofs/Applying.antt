@@ -14,13 +14,15 @@ use Rattle.rt_model.specs.declared.phase.Route.TheVariants.{Full, Short}
 use Rattle.rt_model.specs.declared.row.Row.{Row}
 use Rattle.rt_model.specs.Parts.{ThreadPart, call_of}
 use Rattle.rt_model.specs.Rows.{row_of}
-use Rattle.rt_model.specs.State.{State, Shared, shared, lock_at, task_at, owner_part, thread_part}
+use Rattle.rt_model.specs.State.{State, Shared, shared, lock_at, readers_at, task_at, owner_part, reader_part, thread_part}
 use Rattle.rt_model.specs.Stage.{IsServed}
 use Rattle.rt_model.specs.Choice.{called_lock}
 use Rattle.rt_model.specs.Path.{first_lock, first_owner}
 use Rattle.rt_model.specs.events.Walk.{cycle_event}
 use Rattle.rt_model.specs.events.Own.{own_answer}
 use Rattle.rt_model.specs.NextEvent.{event_of, next_event}
+use Rattle.rt_model.specs.Rules.{touched}
+use Rattle.rt_model.specs.steps.Readers.{CanStep}
 use Rattle.rt_model.specs.StateAfter.{shared_after, thread_after, state_after}
 use Rattle.rt_model.specs.laws.Lawful.{IsLawful}
 use Rattle.rt_model.proofs.Calling.{thread_part-index}
@@ -28,8 +30,10 @@ use Rattle.rt_model.proofs.events.Acquire.{is_fast, is_mark, is_take, is_busy}
 use Rattle.rt_model.proofs.events.Wait.{is_wait, is_again, is_leave}
 use Rattle.rt_model.proofs.events.Walk.{is_walk, is_walkend, is_restart, is_cycle}
 use Rattle.rt_model.proofs.events.Release.{is_free, is_give}
-use Rattle.rt_model.proofs.NextEvents.{IsNext, by_own, by_acquire, by_wait, by_walk, by_confirm, by_wakeup, by_setprio, by_release, choice}
+use Rattle.rt_model.proofs.events.Readers.{reading-holds}
+use Rattle.rt_model.proofs.NextEvents.{IsNext, by_own, by_acquire, by_wait, by_reading, by_walk, by_confirm, by_wakeup, by_setprio, by_release, choice}
 use Rattle.rt_model.proofs.Named.{within}
+use Rattle.rt_model.proofs.ReaderSteps.{reader-step}
 use Rattle.rt_model.proofs.Waiters.{slow-unqueued, round-begins, walk-link}
 use Rattle.rt_model.proofs.laws.Rows.{blocked-queued}
 use Rattle.rt_model.proofs.laws.Walks.{walk-room}
@@ -44,7 +48,7 @@ use Rattle.rt_core.specs.declared.enabled.Enabled.{Enabled}
 use Rattle.rt_parts.specs.Links.{HasRoom}
 use Rattle.rt_core.specs.Fits.{NamesLock, CanQueue, CanLink, NamesOwner, CanSet, Fits}
 use Rattle.rt_core.proofs.Choosing.{cursor-within}
-use Rattle.rt_core.proofs.Counting.{answer-counts}
+use Rattle.rt_core.proofs.Counting.{answer-can}
 use Rattle.rt_model.proofs.Calm.{wakeup-holds}
 
 -- ---- what an event finds
@@ -72,6 +76,7 @@ record IsReady (s : State) (t : TaskId) (e : Event) : Type 0 where
   link : CanLink e.kind e (shared s) (thread_part s t)
   first : NamesOwner e.kind e (shared s)
   set : CanSet e.kind e
+  step : CanStep e.kind e.value (readers_at (shared s) (touched e.kind e).readers)
 
 module _ (s : State) (made : ℕ) (t : TaskId) (lawful : IsLawful s made) (few : made < 2 ^ 62) where
   -- the path of a walk has room
@@ -87,17 +92,17 @@ module _ (s : State) (made : ℕ) (t : TaskId) (lawful : IsLawful s made) (few :
       by_phase _ is = tt
 
   ready : (e : Event) → IsNext s t e → IsReady s t e
-  ready e (by_own call answer is) = subst (IsReady s t) (sym is.event) (record { named = tt; queue = tt; link = tt; first = tt; set = tt })
-  ready e (by_acquire l (is_fast is)) = subst (IsReady s t) (sym is.event) (record { named = refl; queue = tt; link = tt; first = tt; set = tt })
-  ready e (by_acquire l (is_mark is)) = subst (IsReady s t) (sym is.event) (record { named = refl; queue = tt; link = tt; first = tt; set = tt })
-  ready e (by_acquire l (is_take is)) = subst (IsReady s t) (sym is.event) (record { named = refl; queue = tt; link = tt; first = tt; set = tt })
-  ready e (by_acquire l (is_busy is)) = subst (IsReady s t) (sym is.event) (record { named = refl; queue = tt; link = tt; first = tt; set = tt })
+  ready e (by_own call answer is) = subst (IsReady s t) (sym is.event) (record { named = tt; queue = tt; link = tt; first = tt; set = tt; step = tt })
+  ready e (by_acquire l (is_fast is)) = subst (IsReady s t) (sym is.event) (record { named = refl; queue = tt; link = tt; first = tt; set = tt; step = tt })
+  ready e (by_acquire l (is_mark is)) = subst (IsReady s t) (sym is.event) (record { named = refl; queue = tt; link = tt; first = tt; set = tt; step = tt })
+  ready e (by_acquire l (is_take is)) = subst (IsReady s t) (sym is.event) (record { named = refl; queue = tt; link = tt; first = tt; set = tt; step = tt })
+  ready e (by_acquire l (is_busy is)) = subst (IsReady s t) (sym is.event) (record { named = refl; queue = tt; link = tt; first = tt; set = tt; step = tt })
   ready e (by_wait l (is_wait is)) =
       let none = unkeyed (row_of t (owner_part s l).rows) (slow-unqueued s made t lawful l is.at.call is.at.at) in
       let least = lawful.rows.tickets l in
-      subst (IsReady s t) (sym is.event) (record { named = refl; queue = (none, omega (arith, least, few)); link = tt; first = tt; set = tt })
-  ready e (by_wait l (is_again is)) = subst (IsReady s t) (sym is.event) (record { named = refl; queue = tt; link = tt; first = tt; set = tt })
-  ready e (by_wait l (is_leave is)) = subst (IsReady s t) (sym is.event) (record { named = refl; queue = tt; link = tt; first = tt; set = tt })
+      subst (IsReady s t) (sym is.event) (record { named = refl; queue = (none, omega (arith, least, few)); link = tt; first = tt; set = tt; step = tt })
+  ready e (by_wait l (is_again is)) = subst (IsReady s t) (sym is.event) (record { named = refl; queue = tt; link = tt; first = tt; set = tt; step = tt })
+  ready e (by_wait l (is_leave is)) = subst (IsReady s t) (sym is.event) (record { named = refl; queue = tt; link = tt; first = tt; set = tt; step = tt })
   ready e (by_walk route u (is_walk l key is)) =
       let least = lawful.rows.tickets l in
       let at = walk-link s made t route u l key e lawful is in
@@ -115,21 +120,39 @@ module _ (s : State) (made : ℕ) (t : TaskId) (lawful : IsLawful s made) (few :
         };
         first = tt;
         set = tt;
+        step = tt;
       })
-  ready e (by_walk route u (is_walkend is)) = subst (IsReady s t) (sym is.event) (record { named = tt; queue = tt; link = tt; first = tt; set = tt })
-  ready e (by_confirm l path (is_restart link is)) = subst (IsReady s t) (sym is.event) (record { named = tt; queue = tt; link = tt; first = tt; set = tt })
+  ready e (by_walk route u (is_walkend is)) = subst (IsReady s t) (sym is.event) (record { named = tt; queue = tt; link = tt; first = tt; set = tt; step = tt })
+  ready e (by_confirm l path (is_restart link is)) = subst (IsReady s t) (sym is.event) (record { named = tt; queue = tt; link = tt; first = tt; set = tt; step = tt })
   ready e (by_confirm l path (is_cycle is)) =
       let round = round-begins s made t path l lawful is.at in
       let cycle : List (ℕ × ℕ) → Event = λ xs. cycle_event t xs (lock_at (shared s) (first_lock xs)) (task_at (shared s) (first_owner xs)) in
       let there = subst (λ (n : ℕ). round.owner.0 < n) (sym lawful.shape.tasks) round.there in
-      subst (IsReady s t) (sym (is.event ∙ ap cycle round.is)) (record { named = refl; queue = tt; link = tt; first = there; set = tt })
+      subst (IsReady s t) (sym (is.event ∙ ap cycle round.is)) (record { named = refl; queue = tt; link = tt; first = there; set = tt; step = tt })
   ready e (by_wakeup is) =
       wakeup-holds (IsReady s t) s t e is
-      (λ state. record { named = tt; queue = tt; link = tt; first = tt; set = tt }) (record { named = tt; queue = tt; link = tt; first = tt; set = tt })
-      (λ u. record { named = tt; queue = tt; link = tt; first = tt; set = tt }) (λ u. record { named = tt; queue = tt; link = tt; first = tt; set = tt })
-  ready e (by_setprio u prio is) = subst (IsReady s t) (sym is.event) (record { named = tt; queue = tt; link = tt; first = tt; set = record { target = refl; value = is.at.served.1 } })
-  ready e (by_release l (is_free is)) = subst (IsReady s t) (sym is.event) (record { named = refl; queue = tt; link = tt; first = tt; set = tt })
-  ready e (by_release l (is_give is)) = subst (IsReady s t) (sym is.event) (record { named = refl; queue = tt; link = tt; first = tt; set = tt })
+      (λ state. record { named = tt; queue = tt; link = tt; first = tt; set = tt; step = tt }) (record { named = tt; queue = tt; link = tt; first = tt; set = tt; step = tt })
+      (λ u. record { named = tt; queue = tt; link = tt; first = tt; set = tt; step = tt }) (λ u. record { named = tt; queue = tt; link = tt; first = tt; set = tt; step = tt })
+  ready e (by_setprio u prio is) = subst (IsReady s t) (sym is.event) (record { named = tt; queue = tt; link = tt; first = tt; set = record { target = refl; value = is.at.served.1 }; step = tt })
+  ready e (by_release l (is_free is)) = subst (IsReady s t) (sym is.event) (record { named = refl; queue = tt; link = tt; first = tt; set = tt; step = tt })
+  ready e (by_release l (is_give is)) = subst (IsReady s t) (sym is.event) (record { named = refl; queue = tt; link = tt; first = tt; set = tt; step = tt })
+  ready e (by_reading l is) =
+      reading-holds (λ phase x. IfSome (touched x.kind x).readers (λ m. CanStep x.kind x.value (reader_part s m)) → IsReady s t x) s t l e is (record {
+        read = λ step. record { named = refl; queue = tt; link = tt; first = tt; set = tt; step = step };
+        let_in = λ step. record { named = refl; queue = tt; link = tt; first = tt; set = tt; step = step };
+        shut = λ step. record { named = refl; queue = tt; link = tt; first = tt; set = tt; step = step };
+        tryshut = λ step. record { named = refl; queue = tt; link = tt; first = tt; set = tt; step = step };
+        out = λ step. record { named = refl; queue = tt; link = tt; first = tt; set = tt; step = step };
+        wwake = λ step. record { named = refl; queue = tt; link = tt; first = tt; set = tt; step = tt };
+        unbias = λ step. record { named = refl; queue = tt; link = tt; first = tt; set = tt; step = step };
+        written = λ step. record { named = refl; queue = tt; link = tt; first = tt; set = tt; step = step };
+        late = λ step. record { named = refl; queue = tt; link = tt; first = tt; set = tt; step = step };
+        sleep = λ step. record { named = refl; queue = tt; link = tt; first = tt; set = tt; step = step };
+        again = λ step. record { named = refl; queue = tt; link = tt; first = tt; set = tt; step = step };
+        given_up = λ step. record { named = refl; queue = tt; link = tt; first = tt; set = tt; step = step };
+        opened = λ step. record { named = refl; queue = tt; link = tt; first = tt; set = tt; step = step };
+        downgraded = λ step. record { named = refl; queue = tt; link = tt; first = tt; set = tt; step = step };
+      }) (reader-step s made t e lawful (by_reading l is))
 
 answered : (reply : Option Reply) (call : Option Call) → IsSome call → IfSome reply (λ _. IsSome call)
 answered None call some = tt
@@ -156,11 +179,12 @@ fits s made e lawful few is =
       woken = there e.woken names.woken;
       kinds = All-default (λ (thread : ThreadPart). length thread.kinds ≡ length s.locks) s.threads e.task.0 _ lawful.shape.kinds names.task;
       call = answered e.reply (call_of (thread_part s e.task)) (calling s e.task e is);
-      count = answer-counts s made e.task e lawful chosen;
+      can = answer-can s made e.task e lawful chosen;
       queue = ready.queue;
       link = ready.link;
       first = ready.first;
       set = ready.set;
+      step = ready.step;
     }
 
 -- ---- the parts of a core, with the value that they make

@@ -18,11 +18,12 @@ use Rattle.rt_model.specs.events.Acquire.{taker}
 use Rattle.rt_model.specs.laws.Lawful.{IsLawful}
 use Rattle.rt_model.proofs.CellStepLemmas.{leave_queue-like, where_changed}
 use Rattle.rt_model.proofs.Calm.{wakeup-holds}
-use Rattle.rt_model.proofs.NextEvents.{IsNext, by_own, by_acquire, by_wait, by_walk, by_confirm, by_wakeup, by_setprio, by_release}
+use Rattle.rt_model.proofs.NextEvents.{IsNext, by_own, by_acquire, by_wait, by_reading, by_walk, by_confirm, by_wakeup, by_setprio, by_release}
 use Rattle.rt_model.proofs.events.Acquire.{is_fast, is_mark, is_take, is_busy}
 use Rattle.rt_model.proofs.events.Wait.{is_wait, is_again, is_leave}
 use Rattle.rt_model.proofs.events.Walk.{is_walk, is_walkend, is_restart, is_cycle}
 use Rattle.rt_model.proofs.events.Release.{is_free, is_give}
+use Rattle.rt_model.proofs.events.Readers.{reading-holds}
 
 least-le : (prio : ℕ) (keys : List ℕ) → least prio keys ≤ prio
 least-le prio [] = omega arith
@@ -86,3 +87,6 @@ module _ (s : State) (made : ℕ) (t : TaskId) (e : Event) (lawful : IsLawful s 
   boost-within (by_confirm l path (is_restart link is)) = told e _ is.event tt
   boost-within (by_wakeup is) = wakeup-holds (λ (x : Event). IsWithin x.boost) s t e is (λ state. tt) tt (λ u. tt) (λ u. tt)
   boost-within (by_release l (is_free is)) = told e _ is.event tt
+  boost-within (by_reading l is) =
+      reading-holds (λ phase x. IsWithin x.boost) s t l e is
+      (record { read = tt; let_in = tt; shut = tt; tryshut = tt; out = tt; wwake = tt; unbias = tt; written = tt; late = tt; sleep = tt; again = tt; given_up = tt; opened = tt; downgraded = tt })

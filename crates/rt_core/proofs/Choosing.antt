@@ -12,12 +12,12 @@ use Rattle.rt_model.specs.declared.phase.Route.TheVariants.{Full, Short}
 use Rattle.rt_model.specs.Parts.{call_of}
 use Rattle.rt_model.specs.State.{State, shared, task_part, thread_part}
 use Rattle.rt_model.specs.NextEvent.{event_in, event_of, next_event}
+use Rattle.rt_model.specs.Choice.{present_lock}
 use Rattle.rt_model.specs.Path.{first_broken}
 use Rattle.rt_model.specs.Stage.{IsServed, IsPhaseOf}
 use Rattle.rt_model.specs.events.Walk.{confirmed_event}
 use Rattle.rt_model.specs.laws.Phases.{PhasesLaw}
 use Rattle.rt_model.specs.laws.Lawful.{IsLawful}
-use Rattle.rt_model.specs.laws.Queued.{present_lock}
 use Rattle.rt_model.specs.laws.Walks.{IsToConfirm, IsWalkOf}
 use Rattle.rt_model.proofs.Calling.{served_call}
 use Rattle.rt_model.proofs.Lists.{All-both}

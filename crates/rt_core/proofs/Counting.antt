@@ -1,42 +1,61 @@
--- A thread's migration count can follow each answer of a next event.
-use Rattle.std.proofs.Common.{◌≡◌, ◌≤◌, ℕ, length, sym, subst, arith, Option, Some, None, IfSome}
+-- A thread can take each answer of a next event: the hold that it gives back it has, and has counted.
+use Rattle.std.proofs.Common.{◌≡◌, ◌⊎◌, inl, inr, ℕ, ◌<◌, length, true, sym, subst, Option, Some, None, IfSome}
+use Rattle.std.specs.Prelude.{slice_get, unwrap_or}
 use Rattle.rt_base.specs.declared.call.Call.{Call}
 use Rattle.rt_base.specs.declared.call.Call.TheVariants as calls
+use Rattle.rt_base.specs.declared.id.LockId.{LockId}
 use Rattle.rt_base.specs.declared.id.TaskId.{TaskId}
-use Rattle.rt_base.specs.declared.limits.TheConstants.{MAX_LOCKS}
+use Rattle.rt_base.specs.declared.kind.Kind.{Kind}
+use Rattle.rt_base.specs.declared.kind.Kind.TheVariants.{Mutex, RwLock, RwSem}
 use Rattle.rt_base.specs.declared.reply.Reply.{Reply}
 use Rattle.rt_base.specs.declared.reply.Reply.TheVariants as replies
 use Rattle.rt_model.specs.declared.event.Event.{Event}
-use Rattle.rt_model.specs.Parts.{ThreadPart, call_of}
+use Rattle.rt_model.specs.Parts.{ThreadPart, call_of, hold_of, kind_of}
 use Rattle.rt_model.specs.State.{State, thread_part}
-use Rattle.rt_model.specs.Stage.{IsForKind}
+use Rattle.rt_model.specs.Stage.{HasReadersAt, IsForKind}
 use Rattle.rt_model.specs.laws.Lawful.{IsLawful}
 use Rattle.rt_model.specs.laws.Migration.{pinned}
 use Rattle.rt_model.proofs.Calling.{at_call}
-use Rattle.rt_model.proofs.Lists.{All-default}
 use Rattle.rt_model.proofs.NextEvents.{IsNext}
-use Rattle.rt_model.proofs.laws.Migration.{Counted, IsCounted, its_answer, call-fits, holds-long, spin-counts, few-pinned}
-use Rattle.rt_parts.specs.Thread.{CanCount}
+use Rattle.rt_model.proofs.laws.Migration.{Counted, IsCounted, its_answer, call-fits, holds-long, reader_kind, spin-counts, rwlock-counts}
+use Rattle.rt_parts.specs.Thread.{HasRead, HasPin, CanUnpin, CanAnswer}
 
-can-count : (thread : ThreadPart) (call : Call) (answer : Reply) → length thread.holds ≡ length thread.kinds → length thread.kinds ≤ MAX_LOCKS → thread.migration ≡ pinned thread
-    → IsForKind thread.kinds call → Counted thread call answer → CanCount (Some call) answer thread.migration
-can-count thread (calls.Spin l) replies.Got long few law fits counted = omega (arith, few, law, few-pinned thread)
-can-count thread (calls.TrySpin l) replies.Got long few law fits counted = omega (arith, few, law, few-pinned thread)
-can-count thread (calls.Unspin l) replies.Done long few law fits counted = spin-counts thread long l fits counted law
-can-count thread _ _ long few law fits counted = tt
+-- it has the read hold
+has-read : (thread : ThreadPart) (call : Call) (answer : Reply) → Counted thread call answer → HasRead thread (Some call) answer
+has-read thread (calls.Unread l) replies.Done counted = counted
+has-read thread _ _ counted = tt
 
-pub answer-counts : (s : State) (made : ℕ) (t : TaskId) (e : Event) → IsLawful s made → IsNext s t e
-    → IfSome e.reply (λ (answer : Reply). CanCount (call_of (thread_part s t)) answer (thread_part s t).migration)
-answer-counts s made t e lawful next = by_reply e.reply its.counted
+-- and has counted what it holds, of a reader/writer lock where that counts
+module _ (thread : ThreadPart) (long : length thread.holds ≡ length thread.kinds) (law : thread.migration ≡ pinned thread) where
+  can-unpin : (l : LockId) → HasReadersAt thread.kinds l.0 → ((hold_of thread l).owns ≡ true) ⊎ (0 < (hold_of thread l).reads) → CanUnpin (kind_of thread l) thread.migration
+  can-unpin l fits held = by_kind (reader_kind (slice_get thread.kinds l.0) fits)
+    where
+      at : (kind : Kind) → slice_get thread.kinds l.0 ≡ Some kind → CanUnpin kind thread.migration → CanUnpin (kind_of thread l) thread.migration
+      at kind is can = subst (λ (k : Option Kind). CanUnpin (unwrap_or k Mutex) thread.migration) (sym is) can
+
+      by_kind : (slice_get thread.kinds l.0 ≡ Some RwLock) ⊎ (slice_get thread.kinds l.0 ≡ Some RwSem) → CanUnpin (kind_of thread l) thread.migration
+      by_kind (inl is) = at RwLock is (rwlock-counts thread long l is held law)
+      by_kind (inr is) = at RwSem is tt
+
+  has-pin : (call : Call) (answer : Reply) → IsForKind thread.kinds call → Counted thread call answer → HasPin thread (Some call) answer
+  has-pin (calls.Unspin l) replies.Done fits counted = spin-counts thread long l fits counted law
+  has-pin (calls.Unread l) replies.Done fits counted = can-unpin l fits (inr counted)
+  has-pin (calls.Unwrite l) replies.Done fits counted = can-unpin l fits (inl counted)
+  has-pin _ _ fits counted = tt
+
+pub answer-can : (s : State) (made : ℕ) (t : TaskId) (e : Event) → IsLawful s made → IsNext s t e
+    → IfSome e.reply (λ (answer : Reply). CanAnswer (thread_part s t) (call_of (thread_part s t)) answer)
+answer-can s made t e lawful next = by_reply e.reply its.counted
   where
     its : IsCounted s t e.reply
     its = its_answer s t made e lawful next
 
-    by_reply : (reply : Option Reply) → IfSome reply (Counted (thread_part s t) its.call) → IfSome reply (λ (answer : Reply). CanCount (call_of (thread_part s t)) answer (thread_part s t).migration)
+    by_reply : (reply : Option Reply) → IfSome reply (Counted (thread_part s t) its.call) → IfSome reply (λ (answer : Reply). CanAnswer (thread_part s t) (call_of (thread_part s t)) answer)
     by_reply None counted = tt
     by_reply (Some answer) counted =
-        let there = (at_call s t its.call its.calling).1 in
-        let kinds : length (thread_part s t).kinds ≡ length s.locks = All-default (λ (thread : ThreadPart). length thread.kinds ≡ length s.locks) s.threads t.0 _ lawful.shape.kinds there in
-        let few = lawful.shape.few_locks in
-        subst (λ (call : Option Call). CanCount call answer (thread_part s t).migration) (sym its.calling)
-        (can-count (thread_part s t) its.call answer (holds-long s made t lawful there) (omega (arith, kinds, few)) (lawful.migration t) (call-fits s t its.call lawful.stage its.calling) counted)
+        let thread = thread_part s t in
+        let long = holds-long s made t lawful (at_call s t its.call its.calling).1 in
+        subst (λ (call : Option Call). CanAnswer thread call answer) (sym its.calling) (record {
+          read = has-read thread its.call answer counted;
+          pin = has-pin thread long (lawful.migration t) its.call answer (call-fits s t its.call lawful.stage its.calling) counted;
+        })

@@ -18,11 +18,12 @@ use Rattle.rt_model.proofs.events.Acquire.{is_fast, is_mark, is_take, is_busy}
 use Rattle.rt_model.proofs.events.Wait.{is_wait, is_again, is_leave}
 use Rattle.rt_model.proofs.events.Walk.{is_walk, is_walkend, is_restart, is_cycle}
 use Rattle.rt_model.proofs.events.Release.{is_free, is_give}
+use Rattle.rt_model.proofs.events.Readers.{reading-holds}
 use Rattle.rt_base.specs.declared.state.TaskState.{TaskState}
 use Rattle.rt_base.specs.declared.state.TaskState.TheVariants as states
 use Rattle.rt_model.specs.steps.Task.{state_number}
 use Rattle.rt_model.proofs.events.Wakeups.{is_state, is_sched, is_wake, is_signal}
-use Rattle.rt_model.proofs.NextEvents.{IsNext, by_own, by_acquire, by_wait, by_walk, by_confirm, by_wakeup, by_setprio, by_release}
+use Rattle.rt_model.proofs.NextEvents.{IsNext, by_own, by_acquire, by_wait, by_reading, by_walk, by_confirm, by_wakeup, by_setprio, by_release}
 use Rattle.rt_model.proofs.Named.{within}
 use Rattle.rt_events.specs.Entry.{entry, told_path}
 use Rattle.rt_events.specs.WellFormed.{IsTaskIn, IsLinkIn, HasLock, HasOther, HasWoken, HasValue, HasPath, IsWellFormed}
@@ -83,6 +84,24 @@ fields script number s made t e of lawful names (by_wakeup (is_signal u how)) = 
 fields script number s made t e of lawful names (by_setprio u prio how) = fields_of script number e _ how.event names (λ n. record { lock = refl; other = n.other; woken = refl; value = how.at.served.1; path = refl })
 fields script number s made t e of lawful names (by_release l (is_free how)) = fields_of script number e _ how.event names (λ n. record { lock = n.lock; other = refl; woken = refl; value = refl; path = refl })
 fields script number s made t e of lawful names (by_release l (is_give how)) = fields_of script number e _ how.event names (λ n. record { lock = n.lock; other = refl; woken = n.woken; value = refl; path = refl })
+
+fields script number s made t e of lawful names (by_reading l how) =
+    reading-holds (λ phase x. IsWithin (length script.tasks) (length script.locks) x → HasFields script number x) s t l e how (record {
+      read = λ n. record { lock = n.lock; other = refl; woken = refl; value = refl; path = refl };
+      let_in = λ n. record { lock = n.lock; other = refl; woken = refl; value = refl; path = refl };
+      shut = λ n. record { lock = n.lock; other = refl; woken = refl; value = omega arith; path = refl };
+      tryshut = λ n. record { lock = n.lock; other = refl; woken = refl; value = omega arith; path = refl };
+      out = λ n. record { lock = n.lock; other = refl; woken = refl; value = refl; path = refl };
+      wwake = λ n. record { lock = n.lock; other = refl; woken = n.woken; value = refl; path = refl };
+      unbias = λ n. record { lock = n.lock; other = refl; woken = refl; value = refl; path = refl };
+      written = λ n. record { lock = n.lock; other = refl; woken = refl; value = refl; path = refl };
+      late = λ n. record { lock = n.lock; other = refl; woken = refl; value = refl; path = refl };
+      sleep = λ n. record { lock = n.lock; other = refl; woken = refl; value = refl; path = refl };
+      again = λ n. record { lock = n.lock; other = refl; woken = refl; value = refl; path = refl };
+      given_up = λ n. record { lock = n.lock; other = refl; woken = refl; value = omega arith; path = refl };
+      opened = λ n. record { lock = n.lock; other = refl; woken = refl; value = omega arith; path = refl };
+      downgraded = λ n. record { lock = n.lock; other = refl; woken = refl; value = omega arith; path = refl };
+    }) names
 
 boosted : (script : Script) (boost : Option (TaskId × ℕ)) → IfSome boost (λ b. b.0.0 < length script.tasks) → IfSome boost (λ b. b.1 ≤ 139) → IfSome boost (λ b. IsTaskIn script b.0 × (b.1 ≤ 139))
 boosted script None task prio = tt

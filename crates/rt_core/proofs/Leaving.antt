@@ -112,51 +112,6 @@ untouched sh named =
     let readers = at_lock-none sh.readers named.readers (λ readers. readers) (λ readers. refl) in
     sym (λ i. record { locks = locks i; readers = readers i; tasks = woken i })
 
--- an event of another kind than these leaves all as it was
-pub record LeavesAll (sh : Shared) (own : ThreadPart) (e : Event) : Type 0 where
-  pub shared : sh ≡ shared_after sh own e
-  pub thread : own ≡ thread_moved sh own e
-
-pub record IsOther (kind : EventKind) : Type 0 where
-  pub fast : kind ≢ kinds.Fast
-  pub mark : kind ≢ kinds.Mark
-  pub take : kind ≢ kinds.Take
-  pub wait : kind ≢ kinds.Wait
-  pub again : kind ≢ kinds.Again
-  pub free : kind ≢ kinds.Free
-  pub give : kind ≢ kinds.Give
-  pub walk : kind ≢ kinds.Walk
-  pub leave : kind ≢ kinds.Leave
-  pub cycle : kind ≢ kinds.Cycle
-  pub walkend : kind ≢ kinds.WalkEnd
-  pub restart : kind ≢ kinds.Restart
-  pub state : kind ≢ kinds.State
-  pub sched : kind ≢ kinds.Sched
-  pub wake : kind ≢ kinds.Wake
-  pub setprio : kind ≢ kinds.SetPrio
-
-others-leave : (sh : Shared) (thread : ThreadPart) (e : Event) (kind : EventKind) → IsOther kind → LeavesAll sh thread (record e { kind = kind })
-others-leave sh thread e kinds.Fast other = absurd (other.fast refl)
-others-leave sh thread e kinds.Mark other = absurd (other.mark refl)
-others-leave sh thread e kinds.Take other = absurd (other.take refl)
-others-leave sh thread e kinds.Wait other = absurd (other.wait refl)
-others-leave sh thread e kinds.Again other = absurd (other.again refl)
-others-leave sh thread e kinds.Free other = absurd (other.free refl)
-others-leave sh thread e kinds.Give other = absurd (other.give refl)
-others-leave sh thread e kinds.Walk other = absurd (other.walk refl)
-others-leave sh thread e kinds.Leave other = absurd (other.leave refl)
-others-leave sh thread e kinds.Cycle other = absurd (other.cycle refl)
-others-leave sh thread e kinds.WalkEnd other = absurd (other.walkend refl)
-others-leave sh thread e kinds.Restart other = absurd (other.restart refl)
-others-leave sh thread e kinds.State other = absurd (other.state refl)
-others-leave sh thread e kinds.Sched other = absurd (other.sched refl)
-others-leave sh thread e kinds.Wake other = absurd (other.wake refl)
-others-leave sh thread e kinds.SetPrio other = absurd (other.setprio refl)
-others-leave sh thread e kind other = record { shared = untouched sh (touched kind (record e { kind = kind })); thread = refl }
-
-pub other-leaves : (sh : Shared) (thread : ThreadPart) (e : Event) → IsOther e.kind → LeavesAll sh thread e
-other-leaves sh thread e other = others-leave sh thread e e.kind other
-
 -- the end of a walk, and a walk that begins anew, leave all as it was but their thread
 pub end-left : (sh : Shared) (thread : ThreadPart) (e : Event) → e.kind ≡ kinds.WalkEnd → sh ≡ shared_after sh thread e
 end-left sh thread e is = untouched sh (touched kinds.WalkEnd e) ∙ kind-left sh thread e kinds.WalkEnd is
@@ -167,3 +122,7 @@ restart-left sh thread e is = untouched sh (touched kinds.Restart e) ∙ kind-le
 -- an answer of its own thread leaves all as it was
 pub own-left : (sh : Shared) (thread : ThreadPart) (e : Event) → e.kind ≡ kinds.Own → sh ≡ shared_after sh thread e
 own-left sh thread e is = untouched sh (touched kinds.Own e) ∙ kind-left sh thread e kinds.Own is
+
+-- and so does a lock that is found taken, or shut
+pub busy-left : (sh : Shared) (thread : ThreadPart) (e : Event) → e.kind ≡ kinds.Busy → sh ≡ shared_after sh thread e
+busy-left sh thread e is = untouched sh (touched kinds.Busy (record e { kind = kinds.Busy })) ∙ kind-left sh thread e kinds.Busy is

@@ -1,8 +1,10 @@
 -- Where a task stands names only what is there.
-use Rattle.std.proofs.Common.{◌≡◌, ℕ, length, refl, subst, cond, Option, Some, None}
+use Rattle.std.proofs.Common.{◌≡◌, ℕ, length, refl, subst, true, cond, Option, Some, None}
 use Rattle.std.proofs.lemmas.Bool.{cond_both}
 use Rattle.rt_base.specs.Script.{Script}
 use Rattle.rt_base.specs.declared.call.Call.{Call}
+use Rattle.rt_base.specs.declared.call.Call.TheVariants as calls
+use Rattle.rt_base.specs.declared.id.Cpu.{Cpu}
 use Rattle.rt_base.specs.declared.id.LockId.{LockId}
 use Rattle.rt_base.specs.declared.id.TaskId.{TaskId}
 use Rattle.rt_model.specs.declared.phase.Phase.{Phase}
@@ -11,14 +13,16 @@ use Rattle.rt_model.specs.Parts.{call_of}
 use Rattle.rt_model.specs.State.{State, task_part, thread_part}
 use Rattle.rt_model.specs.Run.{is_enabled}
 use Rattle.rt_model.specs.laws.Shape.{IsOf}
-use Rattle.rt_model.specs.Stage.{IsPhaseOf}
+use Rattle.rt_model.specs.Choice.{called_lock}
+use Rattle.rt_model.specs.Stage.{IsServed, IsPhaseOf, waits_to_write}
 use Rattle.rt_model.specs.laws.Lawful.{IsLawful}
+use Rattle.rt_model.proofs.Calling.{served_call}
 use Rattle.rt_model.proofs.Waiters.{WaitsFor-blocked}
 use Rattle.rt_model.proofs.laws.Shape.{IsOf-threads}
 use Rattle.rt_core.proofs.Choosing.{cursor-within}
 use Rattle.rt_core.specs.declared.note.Note.{Note}
 use Rattle.rt_core.specs.declared.note.Note.TheVariants as notes
-use Rattle.rt_core.specs.Report.{blocked_note, phase_note, call_note, note_of, IsNoteWithin}
+use Rattle.rt_core.specs.Report.{blocked_note, readers_note, phase_note, call_note, note_of, IsNoteWithin}
 
 -- a task that is blocked is so on a lock that is there
 blocked_within : (s : State) (made : ℕ) (t : TaskId) (at : Option (LockId × ℕ)) → IsLawful s made → (task_part s t).blocked ≡ at → IsNoteWithin (length s.threads) (length s.locks) (blocked_note at)
@@ -28,18 +32,24 @@ blocked_within s made t (Some at) lawful is = (WaitsFor-blocked s t at lawful.st
 ready_or : (s : State) (t : TaskId) (waiting : Note) → IsNoteWithin (length s.threads) (length s.locks) waiting → IsNoteWithin (length s.threads) (length s.locks) (cond (is_enabled s t.0) notes.Ready waiting)
 ready_or s t waiting within = cond_both (is_enabled s t.0) notes.Ready waiting (IsNoteWithin (length s.threads) (length s.locks)) (λ _. tt) (λ _. within)
 
-phase_within : (s : State) (made : ℕ) (t : TaskId) (call : Call) (phase : Phase) → (thread_part s t).phase ≡ phase → IsLawful s made → IsPhaseOf phase (Some call) → IsNoteWithin (length s.threads) (length s.locks) (phase_note phase s t call)
-phase_within s made t call phases.Start at lawful fits = ready_or s t notes.Wake tt
-phase_within s made t call phases.Slow at lawful fits = ready_or s t notes.Wake tt
-phase_within s made t call phases.Wait at lawful fits = ready_or s t (blocked_note (task_part s t).blocked) (blocked_within s made t (task_part s t).blocked lawful refl)
-phase_within s made t call (phases.Walk cursor route) at lawful fits = cursor-within s made t lawful cursor route at
-phase_within s made t call (phases.Confirm path) at lawful fits = tt
-phase_within s made t call _ at lawful fits = absurd fits
+-- a writer that sleeps for readers does so at a lock that is there
+readers_within : (tasks locks : ℕ) (cpu : Cpu) (call : Call) → IsServed tasks locks call → waits_to_write call ≡ true → IsNoteWithin tasks locks (readers_note (called_lock cpu call))
+readers_within tasks locks cpu (calls.Write l) served writes = served
+readers_within tasks locks cpu _ served writes = cc
+
+phase_within : (s : State) (made : ℕ) (t : TaskId) (call : Call) (phase : Phase) → (thread_part s t).phase ≡ phase → IsLawful s made → call_of (thread_part s t) ≡ Some call → IsPhaseOf phase (Some call)
+    → IsNoteWithin (length s.threads) (length s.locks) (phase_note phase s t call)
+phase_within s made t call phases.Wait at lawful calling fits = ready_or s t (blocked_note (task_part s t).blocked) (blocked_within s made t (task_part s t).blocked lawful refl)
+phase_within s made t call phases.WWait at lawful calling fits =
+    ready_or s t (readers_note (called_lock (thread_part s t).cpu call)) (readers_within (length s.threads) (length s.locks) (thread_part s t).cpu call (served_call s t call lawful.stage calling) fits)
+phase_within s made t call (phases.Walk cursor route) at lawful calling fits = cursor-within s made t lawful cursor route at
+phase_within s made t call (phases.Confirm path) at lawful calling fits = tt
+phase_within s made t call _ at lawful calling fits = ready_or s t notes.Wake tt
 
 call_within : (s : State) (made : ℕ) (t : TaskId) (call : Option Call) → IsLawful s made → call_of (thread_part s t) ≡ call → IsNoteWithin (length s.threads) (length s.locks) (call_note s t call)
 call_within s made t None lawful at = tt
 call_within s made t (Some call) lawful at =
-    phase_within s made t call (thread_part s t).phase refl lawful (subst (λ (c : Option Call). IsPhaseOf (thread_part s t).phase c) at (lawful.phases t))
+    phase_within s made t call (thread_part s t).phase refl lawful at (subst (λ (c : Option Call). IsPhaseOf (thread_part s t).phase c) at (lawful.phases t))
 
 pub note_within : (s : State) (made : ℕ) (t : TaskId) → IsLawful s made → IsNoteWithin (length s.threads) (length s.locks) (note_of s t)
 note_within s made t lawful = call_within s made t (call_of (thread_part s t)) lawful refl

@@ -7,14 +7,15 @@ use Rattle.rt_model.specs.declared.event_kind.EventKind.{EventKind}
 use Rattle.rt_model.specs.declared.event_kind.EventKind.TheVariants as kinds
 use Rattle.rt_model.specs.Parts.{OwnerPart, ThreadPart, call_of}
 use Rattle.rt_model.specs.Rows.{row_of}
-use Rattle.rt_model.specs.State.{Shared, lock_at, task_in, task_at}
+use Rattle.rt_model.specs.State.{Shared, lock_at, readers_at, task_in, task_at}
 use Rattle.rt_model.specs.Path.{first_owner}
 use Rattle.rt_model.specs.Effect.{around}
 use Rattle.rt_model.specs.Rules.{touched}
 use Rattle.rt_model.specs.StateAfter.{effect_in, shared_after}
 use Rattle.rt_walk.specs.Link.{awaited}
 use Rattle.rt_parts.specs.Links.{IsQueuedAt, HasRoom}
-use Rattle.rt_parts.specs.Thread.{CanCount}
+use Rattle.rt_model.specs.steps.Readers.{CanStep}
+use Rattle.rt_parts.specs.Thread.{CanAnswer}
 
 -- ---- by the kind
 
@@ -74,11 +75,12 @@ pub record Fits (e : Event) (sh : Shared) (thread : ThreadPart) : Type 0 where
   pub woken : IfSome e.woken (λ t. t.0 < length sh.tasks)
   pub kinds : length thread.kinds ≡ length sh.locks
   pub call : IfSome e.reply (λ _. IsSome (call_of thread))
-  pub count : IfSome e.reply (λ (answer : Reply). CanCount (call_of thread) answer thread.migration)
+  pub can : IfSome e.reply (λ (answer : Reply). CanAnswer thread (call_of thread) answer)
   pub queue : CanQueue e.kind e (lock_at sh e.lock)
   pub link : CanLink e.kind e sh thread
   pub first : NamesOwner e.kind e sh
   pub set : CanSet e.kind e
+  pub step : CanStep e.kind e.value (readers_at sh (touched e.kind e).readers)
 
 -- the thread as the event leaves it, but for an answer
 abbrev pub thread_moved : Shared → ThreadPart → Event → ThreadPart

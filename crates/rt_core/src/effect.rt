@@ -5,6 +5,7 @@ ghost use Rattle.rt_model.specs.StateAfter.{shared_after, thread_after};
 ghost use Rattle.rt_core.specs.Fits.{Fits, thread_moved};
 
 mod acquire;
+mod readers;
 mod release;
 mod wait;
 mod wakeups;
@@ -64,9 +65,10 @@ fn make_on_lock(shared: &mut Shared, thread: &mut Thread, e: &Event, l: LockId)
     ensures thread { thread.new ≡ thread_moved shared.old thread.old e.now }
 {
     match e.kind {
-        EventKind::Fast => acquire::fast(shared, e, l),
+        EventKind::Fast => acquire::fast(shared, thread, e, l),
         EventKind::Mark => acquire::mark(shared, thread, l),
-        EventKind::Take => acquire::take(shared, e, l, thread.kind_of(l)),
+        EventKind::Take => acquire::take(shared, thread, e, l),
+        EventKind::Busy => thread.found_busy(),
         EventKind::Wait => wait::wait(shared, thread, e, l),
         EventKind::Again => wait::again(shared, e, thread.rest_for(l)),
         EventKind::Leave => wait::leave(shared, thread, e, l),
@@ -74,7 +76,14 @@ fn make_on_lock(shared: &mut Shared, thread: &mut Thread, e: &Event, l: LockId)
         EventKind::Cycle => walk::cycle(shared, thread, e, l),
         EventKind::Free => release::free(shared, l),
         EventKind::Give => release::give(shared, e, l, thread.kind_of(l)),
-        // A `busy` leaves nothing but its answer, and the other kinds don't come yet.
+        EventKind::RIn => readers::rin(shared, thread, l),
+        EventKind::ROut => readers::rout(shared, thread, l),
+        EventKind::Unbias => readers::unbias(shared, thread, l),
+        EventKind::WTake => readers::wtake(shared, e, l, thread.kind_of(l)),
+        EventKind::WSleep => readers::wsleep(shared, thread, e, l),
+        EventKind::WOpen => readers::wopen(shared, thread, e, l),
+        EventKind::WWake => readers::wwake(shared, e, thread.kind_of(l)),
+        // The kinds that are no event on a lock.
         _ => {}
     }
 }

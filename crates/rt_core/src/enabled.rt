@@ -10,7 +10,7 @@ ghost use Rattle.rt_core.specs.Enabled.{IsKeptAt, AreKept};
 
 use crate::task_set::TaskSet;
 use rt_base::limits::MAX_TASKS;
-use rt_base::{Call, TaskId};
+use rt_base::{Call, TaskId, TaskState};
 use rt_choice::{is_awake, own_answer};
 use rt_model::{Event, Phase};
 use rt_parts::{Shared, Thread};
@@ -124,6 +124,13 @@ fn has_first(call: &Call, task: &TaskCell) -> bool
         | Call::Spin(_)
         | Call::TrySpin(_)
         | Call::Unspin(_)
+        | Call::Read(_)
+        | Call::TryRead(_)
+        | Call::Unread(_)
+        | Call::Write(_)
+        | Call::TryWrite(_)
+        | Call::Unwrite(_)
+        | Call::Downgrade(_)
         | Call::State(_)
         | Call::Wake(_)
         | Call::Signal(_)
@@ -133,16 +140,18 @@ fn has_first(call: &Call, task: &TaskCell) -> bool
     }
 }
 
-// Whether a call goes on that has made its first event.
+// Whether a call goes on that has made its first event: one that is queued where its task is awake, a
+// writer that sleeps for readers where its task runs.
 fn can_go_on(phase: &Phase, thread: &Thread, task: &TaskCell, call: &Call) -> bool
     requires call { call_of thread.now ≡ Some call.now }
     requires known { IsServed MAX_TASKS (length thread.now.kinds) call.now }
     ensures { result ≡ can_go_on phase.now thread.now task.now (called_lock thread.now.cpu call.now) }
 {
     match (phase, thread.called_lock(call)) {
-        (Phase::Slow, Some(_)) => true,
-        (Phase::Wait, Some(_)) => is_awake(call, task),
         (Phase::Walk(..) | Phase::Confirm(_), _) => true,
-        _ => false,
+        (Phase::Start, _) | (_, None) => false,
+        (Phase::Wait, Some(_)) => is_awake(call, task),
+        (Phase::WWait, Some(_)) => task.state() == TaskState::Running,
+        (_, Some(_)) => true,
     }
 }

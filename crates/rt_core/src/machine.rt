@@ -1,10 +1,12 @@
-ghost use Rattle.std.specs.Prelude.{◌≡◌, ◌↔◌, ◌<◌, ◌≤◌, ◌+◌, ◌^◌, ◌++◌, ℕ, length, false, All, IsTrue, None, Some, IfOk, IfSome, vec_len, vec_capacity};
+ghost use Rattle.std.specs.Prelude.{◌≡◌, ◌↔◌, ◌<◌, ◌≤◌, ◌+◌, ◌^◌, ◌++◌, ◌||◌, ℕ, length, false, All, IsTrue, Option, None, Some, option_map, IfOk, IfSome, vec_len, vec_capacity};
 ghost use Rattle.std.specs.List.{count_by};
 ghost use Rattle.rt_base.specs.Script.{Script};
 ghost use Rattle.rt_model.specs.declared.obj.Obj.{Obj};
-ghost use Rattle.rt_model.specs.Parts.{call_of, effective_of};
+ghost use Rattle.rt_model.specs.Parts.{call_of, effective_of, kind_named};
+ghost use Rattle.rt_model.specs.Choice.{present_lock};
+ghost use Rattle.rt_base.specs.declared.id.LockId.{LockId as LockNumber};
 ghost use Rattle.rt_model.specs.Stage.{IsPlayable, IsServed};
-ghost use Rattle.rt_model.specs.State.{State, start, shared, object, owner_part, task_part, thread_part};
+ghost use Rattle.rt_model.specs.State.{State, start, shared, object, owner_part, reader_part, task_part, thread_part};
 ghost use Rattle.rt_model.specs.NextEvent.{next_event};
 ghost use Rattle.rt_model.specs.StateAfter.{state_after};
 ghost use Rattle.rt_model.specs.Footprint.{touches};
@@ -12,7 +14,7 @@ ghost use Rattle.rt_model.specs.Run.{is_done, is_stuck, is_enabled, lowest};
 ghost use Rattle.rt_model.specs.Order.{in_walk, is_walking};
 ghost use Rattle.rt_model.specs.laws.Shape.{IsOf, IsWithin, SameSize};
 ghost use Rattle.rt_model.specs.laws.Lawful.{IsLawful};
-ghost use Rattle.rt_model.specs.laws.States.{waits_spinning};
+ghost use Rattle.rt_model.specs.laws.States.{spins_at, sleeps_spinning, waits_spinning};
 ghost use Rattle.rt_model.specs.laws.Wakeups.{flat_state};
 ghost use Rattle.rt_model.specs.laws.Local.{AgreeOn};
 ghost use Rattle.rt_events.specs.Entry.{entry};
@@ -26,10 +28,10 @@ use crate::note::{Note, blocked_note, readers_note};
 use crate::playable::is_playable;
 use crate::report::{write_lock_line, write_task_line};
 use rt_base::limits::{LINE_LIMIT, MAX_TASKS};
-use rt_base::{Call, LockId, NoMemory, Prio, TaskId, TaskState};
+use rt_base::{Call, Kind, LockId, NoMemory, Prio, TaskId, TaskState};
 use rt_choice::{confirmed_event, event_of, next_of};
 use rt_locks::LockCell;
-use rt_model::{Event, Phase, Row};
+use rt_model::{Event, Phase, ReaderCell, Row};
 use rt_parts::{Shared, Thread, threads};
 use rt_script::Script;
 use rt_tasks::TaskCell;
@@ -61,9 +63,8 @@ impl Model for Core {
 }
 
 impl Core {
-    /// Whether the machine plays a script, so far one whose locks are mutexes and spinlocks, and whose tasks
-    /// take and release them, set states and give the processor up, wake and signal each other, and set
-    /// priorities.
+    /// Whether the machine plays a script, so far one without local locks, in which no task moves to another
+    /// processor.
     pub fn can(script: &Script) -> bool
         ensures { IsTrue result ↔ IsPlayable script.now }
     {
@@ -153,6 +154,14 @@ impl Core {
         ensures room { result.now.tasks ≡ length self.now.state.threads }
     {
         self.shared.lock(l)
+    }
+
+    /// A lock's reader part. A lock without readers has the one that all have at the start.
+    pub fn readers(&self, l: LockId) -> ReaderCell
+        requires { l.0 < length self.now.state.locks }
+        ensures { result ≡ reader_part self.now.state l }
+    {
+        self.shared.readers(l)
     }
 
     /// How many calls of a task are answered.
@@ -329,13 +338,41 @@ impl Core {
     }
 }
 
-// Whether the task of this thread waits for a lock of a spinning kind.
+// Whether the task of this thread waits for a lock of a spinning kind: queued, or asleep for its readers.
 fn waits_spinning(thread: &Thread, task: &TaskCell) -> bool
     requires { IfSome task.now.blocked (λ at. at.0.0 < length thread.now.kinds) }
     ensures { result ≡ waits_spinning thread.now task.now }
 {
-    match task.blocked() {
+    spins_at(thread, task.blocked()) || sleeps_spinning(thread)
+}
+
+// Whether the lock on which a task is blocked, where it is, is of a spinning kind, as this thread knows it.
+fn spins_at(thread: &Thread, lock: Option<LockId>) -> bool
+    requires { IfSome lock (λ l. l.0 < length thread.now.kinds) }
+    ensures { (blocked : Option (LockId × ℕ)) → lock ≡ option_map (λ at. at.0) blocked → result ≡ spins_at thread.now blocked }
+{
+    match lock {
         Some(l) => thread.kind_of(l).spins(),
         None => false,
+    }
+}
+
+// Whether a thread's writer sleeps for the readers of a lock of a spinning kind.
+fn sleeps_spinning(thread: &Thread) -> bool
+    ensures { result ≡ sleeps_spinning thread.now.phase (kind_named thread.now (present_lock thread.now)) }
+{
+    matches!(thread.phase(), Phase::WWait) && present_kind(thread).spins()
+}
+
+// The kind of the lock that a thread's call is about, where it is about one.
+fn present_kind(thread: &Thread) -> Kind
+    ensures { result ≡ kind_named thread.now (present_lock thread.now) }
+{
+    let Some(call) = thread.call() else {
+        return Kind::Mutex;
+    };
+    match thread.called_lock(&call) {
+        Some(l) => thread.kind_of(l),
+        None => Kind::Mutex,
     }
 }

@@ -6,29 +6,14 @@ ghost use Rattle.rt_model.specs.Stage.{IsPlayed, IsPlayedKind, IsPlayable};
 use rt_base::{Call, Kind, LockId, TaskId};
 use rt_script::Script;
 
-/// Whether a call takes or releases a mutex or a spinlock, sets a state or gives the processor up, wakes or
-/// signals a task, or sets a priority.
+/// Whether a call is any but those of local locks and `move`.
 fn is_played(call: &Call) -> bool
     ensures { IsTrue result ↔ IsPlayed call.now }
 {
-    matches!(
-        call,
-        Call::Lock(_)
-            | Call::LockInt(_)
-            | Call::TryLock(_)
-            | Call::Unlock(_)
-            | Call::Spin(_)
-            | Call::TrySpin(_)
-            | Call::Unspin(_)
-            | Call::State(_)
-            | Call::Schedule
-            | Call::Wake(_)
-            | Call::Signal(_)
-            | Call::SetPrio(..)
-    )
+    !matches!(call, Call::Local(_) | Call::Unlocal(_) | Call::Move(_))
 }
 
-/// Whether each of these calls does.
+/// Whether each of these calls is.
 fn are_played(calls: &[Call]) -> bool
     ensures { IsTrue result ↔ All IsPlayed calls.now }
 {
@@ -40,14 +25,14 @@ fn are_played(calls: &[Call]) -> bool
     true
 }
 
-/// Whether it is the kind of mutexes or of spinlocks.
+/// Whether it is any kind but that of local locks.
 fn is_played_kind(kind: Kind) -> bool
     ensures { IsTrue result ↔ IsPlayedKind kind }
 {
-    matches!(kind, Kind::Mutex | Kind::Spin)
+    !matches!(kind, Kind::Local)
 }
 
-/// Whether each lock of the script is a mutex or a spinlock.
+/// Whether no lock of the script is a local one.
 fn locks_played(script: &Script) -> bool
     ensures { IsTrue result ↔ All (λ (line : LockLine). IsPlayedKind line.kind) script.now.locks }
 {
@@ -71,8 +56,7 @@ fn calls_played(script: &Script) -> bool
     true
 }
 
-/// Whether the script's locks are mutexes and spinlocks, and its tasks take and release them, set states and
-/// give the processor up, wake and signal each other, and set priorities.
+/// Whether no lock of the script is a local one, and no task makes a call of local locks, or `move`.
 pub fn is_playable(script: &Script) -> bool
     ensures { IsTrue result ↔ IsPlayable script.now }
 {

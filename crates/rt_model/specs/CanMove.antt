@@ -14,28 +14,14 @@ use Rattle.rt_model.specs.steps.Task.{runs, passes}
 use Rattle.rt_model.specs.events.Own.{own_answer}
 use Rattle.rt_model.specs.events.Wait.{is_awake}
 
--- a call that isn't answered by its thread alone has a first event, but where it gives the processor up and its task may not go on
+-- a call that isn't answered by its thread alone has a first event, but where it gives the processor up and its task may not go on;
+-- so far not those of local locks and `move`
 abbrev pub has_first : Call → TaskPart → Bool
-has_first (calls.Lock l) task = true
-has_first (calls.LockInt l) task = true
-has_first (calls.TryLock l) task = true
-has_first (calls.Unlock l) task = true
-has_first (calls.Spin l) task = true
-has_first (calls.TrySpin l) task = true
-has_first (calls.Unspin l) task = true
-has_first (calls.Read l) task = true
-has_first (calls.TryRead l) task = true
-has_first (calls.Unread l) task = true
-has_first (calls.Write l) task = true
-has_first (calls.TryWrite l) task = true
-has_first (calls.Unwrite l) task = true
-has_first (calls.Downgrade l) task = true
-has_first (calls.State state) task = true
+has_first (calls.Local l) task = false
+has_first (calls.Unlocal l) task = false
+has_first (calls.Move cpu) task = false
 has_first calls.Schedule task = passes task
-has_first (calls.Wake u) task = true
-has_first (calls.Signal u) task = true
-has_first (calls.SetPrio u prio) task = true
-has_first _ task = false
+has_first _ task = true
 
 -- a call that has made its first event goes on, while it is queued only where its task runs or is interrupted, and while it sleeps for
 -- readers only where its task runs

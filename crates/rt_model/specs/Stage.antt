@@ -2,7 +2,7 @@
 use Rattle.std.specs.Prelude.{◌≡◌, ◌≢◌, ◌⊎◌, ℕ, ◌<◌, ◌≤◌, Bool, true, false, List, length, All, Option, Some, option_map, slice_get}
 use Rattle.rt_base.specs.Script.{Script, TaskLine, LockLine}
 use Rattle.rt_base.specs.declared.call.Call.{Call}
-use Rattle.rt_base.specs.declared.call.Call.TheVariants.{Lock, LockInt, TryLock, Unlock, Spin, TrySpin, Unspin, Read, TryRead, Unread, Write, TryWrite, Unwrite, Downgrade, State as SetState, Schedule, Wake, Signal, SetPrio}
+use Rattle.rt_base.specs.declared.call.Call.TheVariants.{Lock, LockInt, TryLock, Unlock, Spin, TrySpin, Unspin, Read, TryRead, Unread, Write, TryWrite, Unwrite, Downgrade, Local, Unlocal, State as SetState, Schedule, Wake, Signal, SetPrio, Move}
 use Rattle.rt_base.specs.declared.kind.Kind.{Kind}
 use Rattle.rt_base.specs.declared.kind.Kind.TheVariants as kinds
 use Rattle.rt_base.specs.declared.limits.TheConstants.{MAX_PRIO}
@@ -19,33 +19,14 @@ use Rattle.rt_model.specs.State.{State}
 
 -- the call is any but those of local locks and `move`
 abbrev pub IsPlayed : Call → Type 0
-IsPlayed (Lock l) = Unit {0}
-IsPlayed (LockInt l) = Unit {0}
-IsPlayed (TryLock l) = Unit {0}
-IsPlayed (Unlock l) = Unit {0}
-IsPlayed (Spin l) = Unit {0}
-IsPlayed (TrySpin l) = Unit {0}
-IsPlayed (Unspin l) = Unit {0}
-IsPlayed (Read l) = Unit {0}
-IsPlayed (TryRead l) = Unit {0}
-IsPlayed (Unread l) = Unit {0}
-IsPlayed (Write l) = Unit {0}
-IsPlayed (TryWrite l) = Unit {0}
-IsPlayed (Unwrite l) = Unit {0}
-IsPlayed (Downgrade l) = Unit {0}
-IsPlayed (SetState state) = Unit {0}
-IsPlayed Schedule = Unit {0}
-IsPlayed (Wake t) = Unit {0}
-IsPlayed (Signal t) = Unit {0}
-IsPlayed (SetPrio t prio) = Unit {0}
-IsPlayed _ = ⊥
+IsPlayed (Local l) = ⊥
+IsPlayed (Unlocal l) = ⊥
+IsPlayed (Move cpu) = ⊥
+IsPlayed _ = Unit {0}
 
 abbrev pub IsPlayedKind : Kind → Type 0
-IsPlayedKind kinds.Mutex = Unit {0}
-IsPlayedKind kinds.Spin = Unit {0}
-IsPlayedKind kinds.RwLock = Unit {0}
-IsPlayedKind kinds.RwSem = Unit {0}
 IsPlayedKind kinds.Local = ⊥
+IsPlayedKind _ = Unit {0}
 
 -- no lock of the script is a local one, and each call is played
 pub record IsPlayable (script : Script) : Type 0 where

@@ -12,7 +12,8 @@ pub struct Event {
     pub lock: Option<LockId>,
     /// Another task that it acts on: a walk's cursor, a wakeup's target.
     pub other: Option<TaskId>,
-    /// The lock's owner before the event, where the event looks at that task.
+    /// The lock's owner before the event, where it has one and the event tells it; a writer that has slept
+    /// names itself.
     pub owner: Option<TaskId>,
     /// The task that a lock wakeup went to.
     pub woken: Option<TaskId>,

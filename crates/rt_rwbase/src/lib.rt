@@ -17,6 +17,6 @@ mod reading;
 mod rwbase_tests;
 mod writing;
 
-pub use reading::{can_read, read_in, read_out};
+pub use reading::{can_read, is_last, read_in, read_out};
 pub use rt_model::ReaderCell;
-pub use writing::{unbias, write_in, write_out};
+pub use writing::{can_write, unbias, write_in, write_out};

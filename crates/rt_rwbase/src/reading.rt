@@ -25,8 +25,15 @@ pub fn read_in(r: ReaderCell) -> ReaderCell
     }
 }
 
-/// A reader leaves, `rwbase_read_unlock`. True is answered where it is the last one and a writer waits
-/// for that: then the inner lock's owner is to be woken, `__rwbase_read_unlock`.
+/// Whether a reader that leaves now is the last one, and a writer has removed the bias.
+pub fn is_last(r: ReaderCell) -> bool
+    ensures { result ≡ wakes_writer (without_reader r) }
+{
+    !r.bias && r.count <= 1
+}
+
+/// A reader leaves, `rwbase_read_unlock`. True is answered where it is the last one and a writer has removed
+/// the bias: then the inner lock's owner is to be woken, `__rwbase_read_unlock`.
 pub fn read_out(r: ReaderCell) -> (ReaderCell, bool)
     requires { 0 < r.count }
     ensures { result ≡ (without_reader r, wakes_writer (without_reader r)) }

@@ -13,13 +13,20 @@ pub fn unbias(r: ReaderCell) -> ReaderCell
     ReaderCell { bias: false, ..r }
 }
 
+/// Whether a writer that has removed the bias gets in: no reader is left.
+pub fn can_write(r: ReaderCell) -> bool
+    ensures { result ≡ can_write r }
+{
+    r.count == 0
+}
+
 /// A writer gets in, where no reader is, `__rwbase_write_trylock`.
 pub fn write_in(r: ReaderCell) -> Option<ReaderCell>
     requires bias { r.bias ≡ false }
     requires writer { r.writer ≡ false }
     ensures { result ≡ (if can_write r then Some (with_writer r) else None) }
 {
-    if r.count > 0 {
+    if !can_write(r) {
         return None;
     }
     Some(ReaderCell { writer: true, ..r })

@@ -81,32 +81,37 @@ abbrev pub can_have_refusal : EventKind → Option Reply → Bool
 can_have_refusal kinds.Own (Some replies.NotOwner) = true
 can_have_refusal _ _ = false
 
--- a reader, one that tries, one that leaves, a writer that waits or tries, and one that leaves can have these at the reader part
+-- at the reader part a `read` can have these
 abbrev pub can_have_reading : EventKind → Option Reply → Bool
 can_have_reading kinds.RIn (Some replies.Got) = true
 can_have_reading kinds.Busy None = true
 can_have_reading kinds.RIn None = true
 can_have_reading _ _ = false
 
+-- a `tryread` these
 abbrev pub can_have_reading_once : EventKind → Option Reply → Bool
 can_have_reading_once kinds.RIn (Some replies.Got) = true
 can_have_reading_once _ _ = false
 
+-- an `unread` these
 abbrev pub can_have_unreading : EventKind → Option Reply → Bool
 can_have_unreading kinds.ROut None = true
 can_have_unreading kinds.ROut (Some replies.Done) = true
 can_have_unreading kinds.WWake (Some replies.Done) = true
 can_have_unreading _ _ = false
 
+-- a `write` and a `trywrite` these
 abbrev pub can_have_writing : EventKind → Option Reply → Bool
 can_have_writing kinds.Unbias None = true
 can_have_writing kinds.WTake (Some replies.Got) = true
 can_have_writing _ _ = false
 
+-- a `write` this besides
 abbrev pub can_have_sleeping : EventKind → Option Reply → Bool
 can_have_sleeping kinds.WSleep None = true
 can_have_sleeping _ _ = false
 
+-- and a writer that leaves, or gives up, this
 abbrev pub can_have_opening : EventKind → Option Reply → Bool
 can_have_opening kinds.WOpen None = true
 can_have_opening _ _ = false
@@ -121,19 +126,25 @@ can_have_waking _ _ = false
 -- the call can have an event of this kind with this answer; so far of all calls but those of local locks and `move`
 abbrev pub can_have : Call → EventKind → Option Reply → Bool
 can_have (calls.Lock l) kind reply = can_have_got kind reply || can_have_waiting kind reply || can_have_nested kind reply
-can_have (calls.LockInt l) kind reply = can_have_got kind reply || can_have_waiting kind reply || can_have_nested kind reply || can_have_signalled kind reply
+can_have (calls.LockInt l) kind reply = can_have_got kind reply || can_have_waiting kind reply || can_have_nested kind reply ||
+    can_have_signalled kind reply
 can_have (calls.TryLock l) kind reply = can_have_got kind reply || can_have_trying kind reply
 can_have (calls.Unlock l) kind reply = can_have_release replies.Done kind reply || can_have_refusal kind reply
 can_have (calls.Spin l) kind reply = can_have_got kind reply || can_have_waiting kind reply
 can_have (calls.TrySpin l) kind reply = can_have_got kind reply || can_have_trying kind reply
 can_have (calls.Unspin l) kind reply = can_have_release replies.Done kind reply || can_have_refusal kind reply
-can_have (calls.Read l) kind reply = can_have_reading kind reply || can_have_inner kind reply || can_have_waiting kind reply || can_have_nested kind reply || can_have_release replies.Got kind reply
+can_have (calls.Read l) kind reply = can_have_reading kind reply || can_have_inner kind reply || can_have_waiting kind reply ||
+    can_have_nested kind reply || can_have_release replies.Got kind reply
 can_have (calls.TryRead l) kind reply = can_have_reading_once kind reply || can_have_trying kind reply
 can_have (calls.Unread l) kind reply = can_have_unreading kind reply || can_have_refusal kind reply
-can_have (calls.Write l) kind reply = can_have_inner kind reply || can_have_waiting kind reply || can_have_nested kind reply || can_have_writing kind reply || can_have_sleeping kind reply
-can_have (calls.TryWrite l) kind reply = can_have_inner kind reply || can_have_trying kind reply || can_have_writing kind reply || can_have_opening kind reply || can_have_release replies.Busy kind reply
-can_have (calls.Unwrite l) kind reply = can_have_opening kind reply || can_have_release replies.Done kind reply || can_have_refusal kind reply
-can_have (calls.Downgrade l) kind reply = can_have_opening kind reply || can_have_release replies.Done kind reply || can_have_refusal kind reply
+can_have (calls.Write l) kind reply = can_have_inner kind reply || can_have_waiting kind reply || can_have_nested kind reply ||
+    can_have_writing kind reply || can_have_sleeping kind reply
+can_have (calls.TryWrite l) kind reply = can_have_inner kind reply || can_have_trying kind reply || can_have_writing kind reply ||
+    can_have_opening kind reply || can_have_release replies.Busy kind reply
+can_have (calls.Unwrite l) kind reply = can_have_opening kind reply || can_have_release replies.Done kind reply ||
+    can_have_refusal kind reply
+can_have (calls.Downgrade l) kind reply = can_have_opening kind reply || can_have_release replies.Done kind reply ||
+    can_have_refusal kind reply
 can_have (calls.State state) kinds.State (Some replies.Done) = true
 can_have calls.Schedule kinds.Sched (Some replies.Done) = true
 can_have calls.Schedule kind reply = can_have_nested kind reply

@@ -28,7 +28,7 @@ has_inner _ = false
 abbrev pub is_inside : ThreadPart → LockId → Bool
 is_inside thread l = has_inner thread.phase && is_on (present_lock thread) l
 
--- so by its own part a thread has the owner part of this lock: it holds the lock, and not for reading, or is on its way
+-- so by its own part a thread has the owner part of this lock: it owns it by a hold, or is on its way
 abbrev pub has_owner_part : ThreadPart → LockId → Bool
 has_owner_part thread l = (hold_of thread l).owns || is_inside thread l
 
@@ -38,8 +38,9 @@ gives_back phases.Release (Some (Unwrite l)) = true
 gives_back phases.Release (Some (Downgrade l)) = true
 gives_back phase call = false
 
--- a task owns a lock exactly where it has the owner part by its own thread; who is on its way holds the lock, not for reading,
--- exactly where it gives it back
+-- a task owns a lock exactly where it has the owner part by its own thread; who is on its way owns it by a hold exactly where it
+-- gives that back
 pub record OwnersLaw (s : State) : Type 0 where
   pub owned : (l : LockId) (t : TaskId) → has_owner_part (thread_part s t) l ≡ owned_by (owner_part s l).owner t
-  pub inside : (l : LockId) (t : TaskId) → is_inside (thread_part s t) l ≡ true → (hold_of (thread_part s t) l).owns ≡ gives_back (thread_part s t).phase (call_of (thread_part s t))
+  pub inside : (l : LockId) (t : TaskId) → is_inside (thread_part s t) l ≡ true
+      → (hold_of (thread_part s t) l).owns ≡ gives_back (thread_part s t).phase (call_of (thread_part s t))

@@ -10,6 +10,7 @@ use Rattle.rt_model.specs.Parts.{ThreadPart, call_of, hold_of, kind_of, has_read
 use Rattle.rt_model.specs.Choice.{present_lock, is_on}
 use Rattle.rt_model.specs.State.{State, owner_part, reader_part, thread_part}
 use Rattle.rt_model.specs.laws.Owners.{is_inside}
+use Rattle.rt_model.specs.laws.Shape.{calls_of}
 
 -- ---- writers
 
@@ -64,12 +65,15 @@ all_readers threads l = sum (map (λ (thread : ThreadPart). readers_by thread l)
 
 -- the bias is off exactly where the lock's owner is a writer that has removed it, until it sets it again; the write flag is set
 -- exactly while it is in, with no reader beside it; the count is that of the threads' readers; who is to wake a writer has a read
--- hold of its lock, and no thread has more read holds of a lock than answers, nor more answers than calls
+-- hold of its lock; no thread has more read holds of a lock than answers, nor more answers than calls, so the count is at most the
+-- number of all calls
 pub record ReadersLaw (s : State) : Type 0 where
-  pub bias : (l : LockId) → (reader_part s l).bias ≡ not (of_owner (λ thread. is_closing thread l || is_writing thread l) s (owner_part s l).owner)
+  pub bias : (l : LockId)
+      → (reader_part s l).bias ≡ not (of_owner (λ thread. is_closing thread l || is_writing thread l) s (owner_part s l).owner)
   pub writer : (l : LockId) → (reader_part s l).writer ≡ of_owner (λ thread. is_writing thread l) s (owner_part s l).owner
   pub alone : (l : LockId) → (reader_part s l).writer ≡ true → (reader_part s l).count ≡ 0
   pub count : (l : LockId) → (reader_part s l).count ≡ all_readers s.threads l
   pub gone : (l : LockId) (t : TaskId) → going (thread_part s t) l ≤ (hold_of (thread_part s t) l).reads
   pub few : (l : LockId) (t : TaskId) → (hold_of (thread_part s t) l).reads ≤ (thread_part s t).answered
   pub within : (t : TaskId) → (thread_part s t).answered ≤ length (thread_part s t).calls
+  pub most : (l : LockId) → (reader_part s l).count ≤ calls_of s.threads

@@ -1,4 +1,5 @@
 use Rattle.std.proofs.Common.{◌∙◌, ap, List, Some}
+use Rattle.rt_base.specs.Kind.{spins}
 use Rattle.rt_model.specs.Parts.{TaskPart}
 use Rattle.rt_model.specs.State.{lock_in}
 use Rattle.rt_model.specs.StateAfter.{update}
@@ -17,11 +18,11 @@ refresh-requires-clause-task c = task-stays c.args.shared.now _ c.args.e.now.tas
 pub refresh-requires-clause-lock : goal.refresh-requires-clause-lock
 refresh-requires-clause-lock c = lock-stays c.args.shared.now _ c.args.l.0 (same (goal.at.refresh-requires-clause-lock c).After-leave_queue) c.requires.lock
 
-pub returns : goal.returns
-returns c =
+pub returns-clause-shared : goal.returns-clause-shared
+returns-clause-shared c =
     let sh = c.args.shared.now in
     let t = c.args.e.now.task in
     let lock = taken_by t (lock_in sh c.args.l) in
     refresh-left sh _ _ _ c.args.l (taken_by t) t (leave_queue c.spins.result) (Some t) c.requires.lock c.take.ensures c.leave_queue.ensures c.refresh.ensures
     ∙ (ap (λ (tasks : List TaskPart). record sh { locks = update sh.locks c.args.l.0 (taken_by t); tasks = tasks }) (update-twice sh.tasks t.0 (leave_queue c.spins.result) (refreshed (Some c.args.l) lock.rows))
-    ∙ ap (λ b. record sh { locks = update sh.locks c.args.l.0 (taken_by t); tasks = update sh.tasks t.0 (λ task. refreshed (Some c.args.l) lock.rows (leave_queue b task)) }) c.spins.ensures)
+    ∙ ap (λ b. record sh { locks = update sh.locks c.args.l.0 (taken_by t); tasks = update sh.tasks t.0 (λ task. refreshed (Some c.args.l) lock.rows (leave_queue b task)) }) (c.spins.ensures ∙ ap spins c.kind_of.ensures))

@@ -1,9 +1,8 @@
 -- What each step on a reader part asks of it, it has in a lawful state.
-use Rattle.std.proofs.Common.{◌≡◌, ℕ, ◌+◌, ◌-◌, ◌<◌, ◌≤◌, Bool, true, false, cond, not, ◌&&◌, ◌||◌, length, map, refl, sym, ap, ◌∙◌, subst, arith, Option, Some, None, IfSome}
+use Rattle.std.proofs.Common.{◌≡◌, ℕ, ◌-◌, ◌<◌, Bool, true, false, not, ◌&&◌, ◌||◌, length, map, refl, sym, ap, ◌∙◌, subst, arith, Some, IfSome}
 use Rattle.std.specs.Prelude.{nat_eq, sum}
 use Rattle.std.proofs.lemmas.Bool.{or_left, or_right}
 use Rattle.std.proofs.lemmas.Bool.Decides.{nat_tests}
-use Rattle.std.proofs.lemmas.Option.{slice_get_within}
 use Rattle.rt_base.specs.declared.call.Call.{Call}
 use Rattle.rt_base.specs.declared.id.LockId.{LockId}
 use Rattle.rt_base.specs.declared.id.TaskId.{TaskId}
@@ -11,14 +10,14 @@ use Rattle.rt_base.specs.declared.limits.TheConstants.{MAX_CALLS}
 use Rattle.rt_model.specs.declared.event.Event.{Event}
 use Rattle.rt_model.specs.declared.phase.Phase.{Phase}
 use Rattle.rt_model.specs.declared.phase.Phase.TheVariants as phases
-use Rattle.rt_model.specs.Parts.{ThreadPart, call_of, hold_of, kind_of, has_readers}
-use Rattle.rt_model.specs.Choice.{present_lock, is_on, called_lock}
+use Rattle.rt_model.specs.Parts.{ThreadPart, hold_of, kind_of, has_readers}
+use Rattle.rt_model.specs.Choice.{called_lock}
 use Rattle.rt_model.specs.State.{State, no_thread, reader_part, thread_part}
 use Rattle.rt_model.specs.Stage.{IsForKind, HasReadersAt}
 use Rattle.rt_model.specs.Rules.{touched}
 use Rattle.rt_model.specs.steps.Readers.{CanStep}
 use Rattle.rt_model.specs.laws.Lawful.{IsLawful}
-use Rattle.rt_model.specs.laws.Readers.{has_come, coming, going, readers_by}
+use Rattle.rt_model.specs.laws.Readers.{has_come, coming, readers_by}
 use Rattle.rt_model.specs.laws.Shape.{calls_of}
 use Rattle.rt_model.proofs.Counts.{sum-less}
 use Rattle.rt_model.proofs.ReaderCounts.{none-comes, readers-most, readers-less}

@@ -203,7 +203,7 @@ module _ (s : State) (made : ℕ) (t : TaskId) (e : Event) (lawful : IsLawful s 
 
       few_left : (m : LockId) (u : TaskId) → (hold_of (thread_part (state_after s e) u) m).reads ≤ (thread_part (state_after s e) u).answered
       few_left m u = at_each_task (λ v. (hold_of (thread_part (state_after s e) v) m).reads ≤ (thread_part (state_after s e) v).answered) t u (turn m).few
-        (λ ne. subst (λ (thread : ThreadPart). (hold_of thread m).reads ≤ thread.answered) (sym (others u ne)) (lawful.readers.few m u))
+          (λ ne. subst (λ (thread : ThreadPart). (hold_of thread m).reads ≤ thread.answered) (sym (others u ne)) (lawful.readers.few m u))
 
       Turned : LockId → Type 0
       Turned m = Flags (look (thread_part s t) m) (look (thread_part (state_after s e) t) m) (reader_part s m) (reader_part (state_after s e) m)

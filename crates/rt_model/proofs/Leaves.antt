@@ -38,7 +38,7 @@ use Rattle.rt_model.proofs.Calling.{Asks, by_lockint, asks-lock, waits-holds}
 use Rattle.rt_model.proofs.CellStepLemmas.{IsLike, with_top-blocked, leave_queue-blocked, leave_queue-like, interrupted-blocked, interrupted-like}
 use Rattle.rt_model.proofs.Links.{walked_thread, slots_there}
 use Rattle.rt_model.proofs.Numbers.{number_itself, other_way, same_task, owner-is}
-use Rattle.rt_model.proofs.PartsAfter.{SlotsThere, own-slots-made, lock-made, thread-own, thread-other}
+use Rattle.rt_model.proofs.PartsAfter.{SlotsThere, own-slots-made, lock-made, thread-own}
 use Rattle.rt_model.proofs.PathLinks.{first-stands}
 use Rattle.rt_model.proofs.Waiters.{blocking, asks-awaited, blocked-unowned, round-begins}
 use Rattle.rt_model.proofs.Within.{task_room, owner_within}
@@ -289,10 +289,6 @@ module _ (s : State) (made : ℕ) (t : TaskId) (l : LockId) (e : Event) (lawful 
       apart : nat_eq t.0 o.0 ≡ false
       apart = other_way t o (sym (ap (λ (p : Option TaskId). owned_by p t) some) ∙ left-unowned)
 
-  -- and who is neither is as it was
-  pub left-other : (v : TaskId) → nat_eq t.0 v.0 ≡ false → owned_by (owner_part s l).owner v ≡ false → task_part (state_after s e) v ≡ task_part s v
-  left-other v ne its = left-others v ne ∙ cond-false (owned_by (owner_part s l).owner v) (refreshed (Some l) left_lock.rows (task_part s v)) (task_part s v) its
-
   -- its own task isn't blocked any more, and every other is blocked as it was
   pub left-own_blocked : (task_part (state_after s e) t).blocked ≡ None
   left-own_blocked = ap (λ (task : TaskPart). task.blocked) left-own ∙ of_kind is (spins (kind_of (thread_part s t) l)) (task_part s t)
@@ -342,7 +338,3 @@ module _ (s : State) (made : ℕ) (t : TaskId) (l : LockId) (e : Event) (lawful 
 
   pub left-thread_own : thread_part (state_after s e) t ≡ walked_thread (thread_part s t) (Short (left_answer is)) left_next
   left-thread_own = thread-own s e (left_made s t l e is) (left-is s t l e is) left-there ∙ left-thread
-
-  -- and every other as it was
-  pub left-thread_other : (u : TaskId) → nat_eq t.0 u.0 ≡ false → thread_part (state_after s e) u ≡ thread_part s u
-  left-thread_other u ne = thread-other s e u (ap (λ (y : Event). nat_eq y.task.0 u.0) (left-is s t l e is) ∙ ne)

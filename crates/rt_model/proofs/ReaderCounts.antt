@@ -1,5 +1,5 @@
 -- How many readers a thread is, and all of them: no more than their calls.
-use Rattle.std.proofs.Common.{◌≡◌, ℕ, ◌+◌, ◌-◌, ◌<◌, ◌≤◌, Bool, true, false, cond, ◌&&◌, length, map, refl, ap, ◌∙◌, arith, Option, Some, None}
+use Rattle.std.proofs.Common.{◌≡◌, ◌+◌, ◌-◌, ◌<◌, ◌≤◌, Bool, true, false, cond, ◌&&◌, length, map, refl, ap, ◌∙◌, arith, Option, Some, None}
 use Rattle.std.specs.Prelude.{sum}
 use Rattle.std.proofs.lemmas.Option.{slice_get_within}
 use Rattle.rt_base.specs.declared.call.Call.{Call}
@@ -49,6 +49,6 @@ pub count-most : (s : State) (l : LockId) → (reader_part s l).count ≡ all_re
     → ((t : TaskId) → (thread_part s t).answered ≤ length (thread_part s t).calls) → (reader_part s l).count ≤ calls_of s.threads
 count-most s l count few within =
     let all : sum (map (λ (thread : ThreadPart). readers_by thread l) s.threads) ≤ calls_of s.threads =
-        sum-most (λ (thread : ThreadPart). readers_by thread l) (λ (thread : ThreadPart). length thread.calls) no_thread s.threads
-        (λ i. readers-most l (thread_part s (record { 0 = i })) (within (record { 0 = i })) (few (record { 0 = i }))) in
+    sum-most (λ (thread : ThreadPart). readers_by thread l) (λ (thread : ThreadPart). length thread.calls) no_thread s.threads
+    (λ i. readers-most l (thread_part s (record { 0 = i })) (within (record { 0 = i })) (few (record { 0 = i }))) in
     omega (arith, all, count)

@@ -1,9 +1,8 @@
 -- What each step on a reader part asks of it, it has in a lawful state.
-use Rattle.std.proofs.Common.{◌≡◌, ℕ, ◌+◌, ◌-◌, ◌<◌, ◌≤◌, Bool, true, false, cond, not, ◌&&◌, ◌||◌, length, map, refl, sym, ap, ◌∙◌, subst, arith, Option, Some, None, IfSome}
+use Rattle.std.proofs.Common.{◌≡◌, ℕ, ◌-◌, ◌<◌, Bool, true, false, not, ◌&&◌, ◌||◌, length, map, refl, sym, ap, ◌∙◌, subst, arith, Some, IfSome}
 use Rattle.std.specs.Prelude.{nat_eq, sum}
 use Rattle.std.proofs.lemmas.Bool.{or_left, or_right}
 use Rattle.std.proofs.lemmas.Bool.Decides.{nat_tests}
-use Rattle.std.proofs.lemmas.Option.{slice_get_within}
 use Rattle.rt_base.specs.declared.call.Call.{Call}
 use Rattle.rt_base.specs.declared.id.LockId.{LockId}
 use Rattle.rt_base.specs.declared.id.TaskId.{TaskId}
@@ -11,14 +10,14 @@ use Rattle.rt_base.specs.declared.limits.TheConstants.{MAX_CALLS}
 use Rattle.rt_model.specs.declared.event.Event.{Event}
 use Rattle.rt_model.specs.declared.phase.Phase.{Phase}
 use Rattle.rt_model.specs.declared.phase.Phase.TheVariants as phases
-use Rattle.rt_model.specs.Parts.{ThreadPart, call_of, hold_of, kind_of, has_readers}
-use Rattle.rt_model.specs.Choice.{present_lock, is_on, called_lock}
+use Rattle.rt_model.specs.Parts.{ThreadPart, hold_of, kind_of, has_readers}
+use Rattle.rt_model.specs.Choice.{called_lock}
 use Rattle.rt_model.specs.State.{State, no_thread, reader_part, thread_part}
 use Rattle.rt_model.specs.Stage.{IsForKind, HasReadersAt}
 use Rattle.rt_model.specs.Rules.{touched}
 use Rattle.rt_model.specs.steps.Readers.{CanStep}
 use Rattle.rt_model.specs.laws.Lawful.{IsLawful}
-use Rattle.rt_model.specs.laws.Readers.{has_come, coming, going, readers_by}
+use Rattle.rt_model.specs.laws.Readers.{has_come, coming, readers_by}
 use Rattle.rt_model.specs.laws.Shape.{calls_of}
 use Rattle.rt_model.proofs.Counts.{sum-less}
 use Rattle.rt_model.proofs.ReaderCounts.{none-comes, readers-most, readers-less}
@@ -38,9 +37,9 @@ fewer : (s : State) (made : ℕ) (t : TaskId) (l : LockId) (phase : Phase) (call
 fewer s made t l phase call lawful at not_yet =
     let nobody : coming (thread_part s t) l ≡ 0 = none-comes l (thread_part s t) (lawful.readers.within t) (lawful.readers.few l t) ((λ i. has_come (at.phased i) (at.calling i)) ∙ not_yet) in
     let all : sum (map (λ (thread : ThreadPart). readers_by thread l) s.threads) < calls_of s.threads =
-        sum-less (λ (thread : ThreadPart). readers_by thread l) (λ (thread : ThreadPart). length thread.calls) no_thread s.threads t.0
-        (λ i. readers-most l (thread_part s (record { 0 = i })) (lawful.readers.within (record { 0 = i })) (lawful.readers.few l (record { 0 = i }))) at.task
-        (readers-less l (thread_part s t) (lawful.readers.within t) (lawful.readers.few l t) call at.calling nobody) in
+    sum-less (λ (thread : ThreadPart). readers_by thread l) (λ (thread : ThreadPart). length thread.calls) no_thread s.threads t.0
+    (λ i. readers-most l (thread_part s (record { 0 = i })) (lawful.readers.within (record { 0 = i })) (lawful.readers.few l (record { 0 = i }))) at.task
+    (readers-less l (thread_part s t) (lawful.readers.within t) (lawful.readers.few l t) call at.calling nobody) in
     omega (arith, all, lawful.readers.count l, lawful.shape.few_calls)
 
 -- ---- what an event finds
@@ -77,9 +76,10 @@ module _ (s : State) (made : ℕ) (t : TaskId) (e : Event) (lawful : IsLawful s 
       → (seen_in s made t lawful l phase call).inside ≡ true → ((reader_part s l).bias ≡ false) × ((reader_part s l).writer ≡ false)
   unbiased-finds l phase call x is about closing inside =
       let facts = facts-at l phase call x is about in
-      let has = or_right (held l) (seen_in s made t lawful l phase call).inside inside in
-      (facts.bias has ∙ ap (λ (b : Bool). not (b || rw l && held l && not (seen_in s made t lawful l phase call).inside)) closing,
-       facts.writer has ∙ (ap (λ (b : Bool). rw l && held l && not b) inside ∙ out (rw l) (held l)))
+      let has = or_right (held l) (seen_in s made t lawful l phase call).inside inside in (
+        facts.bias has ∙ ap (λ (b : Bool). not (b || rw l && held l && not (seen_in s made t lawful l phase call).inside)) closing,
+        facts.writer has ∙ (ap (λ (b : Bool). rw l && held l && not b) inside ∙ out (rw l) (held l)),
+      )
 
   -- one that is in finds the bias off, and the write flag set
   written-finds : (l : LockId) (call : Call) (x : Event) → IsMade s t l phases.Start call x e → called_lock (thread_part s t).cpu call ≡ Some l → (IsForKind (thread_part s t).kinds call → HasReadersAt (thread_part s t).kinds l.0) → held l ≡ true

@@ -19,12 +19,31 @@ use Rattle.rt_model.specs.StateAfter.{shared_after, thread_after, state_after}
 use Rattle.rt_model.specs.steps.Readers.{wakes_writer, without_reader}
 use Rattle.rt_model.specs.steps.Thread.{phase_after_busy, answered_with}
 use Rattle.rt_model.specs.events.Readers.{phase_after_rin, rout_event}
+use Rattle.rt_model.specs.laws.Queued.{awaited_in}
 use Rattle.rt_model.proofs.Blocked.{moves, blocked-kept}
 use Rattle.rt_model.proofs.Calling.{IsIn, EndsInner, of_read, of_trywrite, of_unwrite, of_downgrade, Writes}
 use Rattle.rt_model.proofs.PartsAfter.{locks-kept, thread-own, thread-made}
 use Rattle.rt_model.proofs.events.Readers.{
-  IsMade, IsReading, is_read, is_tryread, is_let_in, is_shut, is_tryshut, is_out, is_wwake, is_unbias, is_in, is_sleep, is_given_up, is_in_late, is_sleep_again, is_opened, is_downgraded,
-  reading-in, reading-holds, reading-task,
+  IsMade,
+  IsReading,
+  is_read,
+  is_tryread,
+  is_let_in,
+  is_shut,
+  is_tryshut,
+  is_out,
+  is_wwake,
+  is_unbias,
+  is_in,
+  is_sleep,
+  is_given_up,
+  is_in_late,
+  is_sleep_again,
+  is_opened,
+  is_downgraded,
+  reading-in,
+  reading-holds,
+  reading-task,
 }
 
 -- what holds of the kinds of these events
@@ -43,8 +62,20 @@ pub reading-kind : (P : EventKind → Type 0) (s : State) (t : TaskId) (l : Lock
 reading-kind P s t l e is each =
     reading-holds (λ phase x. P x.kind) s t l e is
     (record {
-      read = each.rin; let_in = each.rin; shut = each.busy; tryshut = each.busy; out = each.rout; wwake = each.wwake; unbias = each.unbias; written = each.wtake; late = each.wtake;
-      sleep = each.wsleep; again = each.wsleep; given_up = each.wopen; opened = each.wopen; downgraded = each.wopen;
+      read = each.rin;
+      let_in = each.rin;
+      shut = each.busy;
+      tryshut = each.busy;
+      out = each.rout;
+      wwake = each.wwake;
+      unbias = each.unbias;
+      written = each.wtake;
+      late = each.wtake;
+      sleep = each.wsleep;
+      again = each.wsleep;
+      given_up = each.wopen;
+      opened = each.wopen;
+      downgraded = each.wopen;
     })
 
 pub reading-lock : (s : State) (t : TaskId) (l : LockId) (e : Event) → IsReading s t l e → e.lock ≡ Some l
@@ -59,6 +90,12 @@ is_idle phases.Wait = false
 is_idle (phases.Walk cursor route) = false
 is_idle (phases.Confirm path) = false
 is_idle _ = true
+
+pub idle-awaits : (phase : Phase) (lock : Option LockId) → is_idle phase ≡ true → awaited_in phase lock ≡ None
+idle-awaits phases.Wait lock is = cc
+idle-awaits (phases.Walk cursor route) lock is = cc
+idle-awaits (phases.Confirm path) lock is = cc
+idle-awaits _ lock is = refl
 
 -- ---- its own thread
 

@@ -31,25 +31,25 @@ use Rattle.rt_model.specs.steps.Chain.{followed, goes_on, phase_of_walk}
 use Rattle.rt_model.specs.steps.Readers.{wakes_writer}
 use Rattle.rt_model.specs.steps.Task.{with_top, sleep_of, saved_for, restored, leave_queue, sleeps, is_interruptible, woken_up, woken_by, lock_state_woken, lock_woken, state_numbered}
 use Rattle.rt_model.specs.steps.Thread.{phase_after_got, phase_after_busy, answered_with}
-use Rattle.rt_model.specs.Choice.{called_lock, present_lock}
+use Rattle.rt_model.specs.Choice.{present_lock}
 use Rattle.rt_model.specs.Effect.{Around, around}
 use Rattle.rt_model.specs.Rules.{touched, effect}
 use Rattle.rt_model.specs.StateAfter.{shared_after, state_after}
 use Rattle.rt_model.specs.laws.Lawful.{IsLawful}
-use Rattle.rt_model.specs.laws.Queued.{awaited_in}
 use Rattle.rt_model.specs.laws.Shape.{IsShaped}
 use Rattle.rt_model.specs.laws.States.{has_slept, spins_at, sleeps_spinning, waits_spinning, IsRested}
 use Rattle.rt_model.proofs.Calling.{ReturnsBy, from_hold, from_inside}
 use Rattle.rt_model.proofs.CellStepLemmas.{where_changed}
+use Rattle.rt_model.proofs.Idle.{idle-unblocked}
 use Rattle.rt_model.proofs.Lists.{All-default}
 use Rattle.rt_model.proofs.Named.{within}
 use Rattle.rt_model.proofs.NextEvents.{IsNext, by_own, by_acquire, by_wait, by_release, by_reading, by_walk, by_confirm, by_wakeup, by_setprio, task-IsNext}
 use Rattle.rt_model.proofs.PartsAfter.{OthersKeep, changes_readers, thread-own}
-use Rattle.rt_model.proofs.Reading.{is_idle, reading-was_idle}
+use Rattle.rt_model.proofs.Reading.{reading-was_idle}
 use Rattle.rt_model.proofs.Routes.{goes_on-holds}
-use Rattle.rt_model.proofs.Waiters.{blocking, idle-blocked, walk-phase}
-use Rattle.rt_model.proofs.events.Acquire.{AsksBy, from_start, from_reading, AcquiresIn, by_asking, by_trying, TakesIn, from_slow, from_wait, from_trying, is_fast, is_mark, is_take, is_busy}
-use Rattle.rt_model.proofs.events.Readers.{IsReading, reading-in}
+use Rattle.rt_model.proofs.Waiters.{blocking, walk-phase}
+use Rattle.rt_model.proofs.events.Acquire.{asks-phased, fast-phased, take-phased, is_fast, is_mark, is_take, is_busy}
+use Rattle.rt_model.proofs.events.Readers.{IsReading}
 use Rattle.rt_model.proofs.events.Release.{is_free, is_give}
 use Rattle.rt_model.proofs.events.Wait.{is_wait, is_again, is_leave}
 use Rattle.rt_model.proofs.events.Walk.{is_walk, is_walkend, is_restart, is_cycle}
@@ -425,21 +425,14 @@ module _ (s : State) (made : ℕ) (t : TaskId) (e : Event) (lawful : IsLawful s 
   pub else-up : IsElse s t e → IsUp s t e
   else-up is = up-as e refl (else-stays e.kind is.kind) (else-awake (thread_part s t).phase is.phase)
 
-  other : (x : Event) (phase : Phase) → e ≡ x → of_readers x.kind ≡ false → (thread_part s t).phase ≡ phase → at_readers phase ≡ false → IsElse s t e
-  other x phase is kind at before = record { phase = ap at_readers at ∙ before; kind = ap (λ (y : Event). of_readers y.kind) is ∙ kind }
+  abbrev IsAway : Phase → Type 0
+  IsAway phase = at_readers phase ≡ false
 
-  else-asks : (x : Event) (l : LockId) → e ≡ x → of_readers x.kind ≡ false → AsksBy s t l → IsElse s t e
-  else-asks x l is kind (from_start asks unheld) = other x _ is kind asks.at.phased refl
-  else-asks x l is kind (from_reading asks) = other x _ is kind asks.at.phased refl
+  away : (x : Event) → e ≡ x → of_readers x.kind ≡ false → IsAway (thread_part s t).phase → IsElse s t e
+  away x is kind phase = record { phase = phase; kind = ap (λ (y : Event). of_readers y.kind) is ∙ kind }
 
-  else-acquires : (x : Event) (l : LockId) → e ≡ x → of_readers x.kind ≡ false → AcquiresIn s t l → IsElse s t e
-  else-acquires x l is kind (by_asking asks) = else-asks x l is kind asks
-  else-acquires x l is kind (by_trying tries) = other x _ is kind tries.at.phased refl
-
-  else-takes : (x : Event) (l : LockId) → e ≡ x → of_readers x.kind ≡ false → TakesIn s t l → IsElse s t e
-  else-takes x l is kind (from_slow asks) = other x _ is kind asks.at.phased refl
-  else-takes x l is kind (from_wait asks awake) = other x _ is kind asks.at.phased refl
-  else-takes x l is kind (from_trying tries) = other x _ is kind tries.at.phased refl
+  other : (x : Event) (phase : Phase) → e ≡ x → of_readers x.kind ≡ false → (thread_part s t).phase ≡ phase → IsAway phase → IsElse s t e
+  other x phase is kind at before = away x is kind (ap at_readers at ∙ before)
 
   else-returns : (x : Event) (l : LockId) (call : Call) → e ≡ x → of_readers x.kind ≡ false → ReturnsBy s t l call → IsElse s t e
   else-returns x l call is kind (from_hold releases at held) = other x _ is kind at.phased refl
@@ -451,9 +444,9 @@ module _ (s : State) (made : ℕ) (t : TaskId) (e : Event) (lawful : IsLawful s 
     where
       by_kind : IsNext s t e → IsElse s t e ⊎ ((l : LockId) × IsReading s t l e)
       by_kind (by_own call answer is) = inl (other _ _ is.event refl is.at.phased refl)
-      by_kind (by_acquire l (is_fast is)) = inl (else-acquires _ l is.event refl is.how)
-      by_kind (by_acquire l (is_mark is)) = inl (else-asks _ l is.event refl is.how)
-      by_kind (by_acquire l (is_take is)) = inl (else-takes _ l is.event refl is.how)
+      by_kind (by_acquire l (is_fast is)) = inl (away _ is.event refl (fast-phased IsAway s t l is.how refl refl))
+      by_kind (by_acquire l (is_mark is)) = inl (away _ is.event refl (asks-phased IsAway s t l is.how refl refl))
+      by_kind (by_acquire l (is_take is)) = inl (away _ is.event refl (take-phased IsAway s t l is.how refl refl refl))
       by_kind (by_acquire l (is_busy is)) = inl (other _ _ is.event refl is.at.at.phased refl)
       by_kind (by_wait l (is_wait is)) = inl (other _ _ is.event refl is.at.at.phased refl)
       by_kind (by_wait l (is_again is)) = inl (other _ _ is.event refl is.at.at.phased refl)
@@ -473,14 +466,6 @@ module _ (s : State) (made : ℕ) (t : TaskId) (e : Event) (lawful : IsLawful s 
 
 -- ---- a task whose event is at a reader part
 
-awaits-none : (phase : Phase) (lock : Option LockId) → is_idle phase ≡ true → awaited_in phase lock ≡ None
-awaits-none phases.Wait lock idle = cc
-awaits-none (phases.Walk cursor route) lock idle = cc
-awaits-none (phases.Confirm path) lock idle = cc
-awaits-none _ lock idle = refl
-
 -- it is blocked on nothing
 pub reading-unblocked : (s : State) (made : ℕ) (t : TaskId) (l : LockId) (e : Event) → IsLawful s made → IsReading s t l e → (task_part s t).blocked ≡ None
-reading-unblocked s made t l e lawful is =
-    let at = reading-in s t l e is in
-    idle-blocked s made t lawful at.phase at.call at.at (awaits-none at.phase (called_lock (thread_part s t).cpu at.call) (ap is_idle (sym at.at.phased) ∙ reading-was_idle s t l e is))
+reading-unblocked s made t l e lawful is = idle-unblocked s made t lawful (reading-was_idle s t l e is)

@@ -22,7 +22,7 @@ use Rattle.rt_model.specs.laws.Rows.{key_at}
 use Rattle.rt_model.specs.laws.States.{has_slept}
 use Rattle.rt_model.specs.laws.Owners.{owned_by}
 use Rattle.rt_model.specs.laws.Phases.{PhasesLaw}
-use Rattle.rt_model.specs.laws.Walks.{IsFullWalk, IsToConfirm, IsWalkOf}
+use Rattle.rt_model.specs.laws.Walks.{IsToConfirm, IsWalkOf}
 use Rattle.rt_model.proofs.Calling.{IsIn, served_call, WaitsFor, waits-holds, waits-called, waits-about, Asks, asks-present}
 use Rattle.rt_model.proofs.events.Acquire.{TakesIn, from_slow, from_wait, from_trying}
 use Rattle.rt_model.proofs.events.Walk.{WalksIn, by_full, by_short, IsWalk}
@@ -159,13 +159,7 @@ cursor-there s made t route u lawful how = of_route route (subst (IsWalkOf (leng
     of_route (Full path) is = is.0
     of_route (Short answer) is = is
 
--- and a full one has such a path
-pub full-walk : (s : State) (made : ℕ) (t : TaskId) (u : TaskId) (path : List (ℕ × ℕ)) (l : LockId) → IsLawful s made → Asks s t (phases.Walk u (Full path)) l → IsFullWalk (length s.threads) (length s.locks) t (Some l) u path
-full-walk s made t u path l lawful is =
-    subst (λ (lock : Option LockId). IsFullWalk (length s.threads) (length s.locks) t lock u path) (asks-present s t (phases.Walk u (Full path)) l is)
-    (subst (IsWalkOf (length s.threads) (length s.locks) t (present_lock (thread_part s t))) is.at.phased (lawful.walks t)).1
-
--- and so has one that is to be confirmed
+-- one that is to be confirmed has such a path
 pub confirm-walk : (s : State) (made : ℕ) (t : TaskId) (path : List (ℕ × ℕ)) (l : LockId) → IsLawful s made → Asks s t (phases.Confirm path) l → IsToConfirm (length s.threads) (length s.locks) t (Some l) path
 confirm-walk s made t path l lawful is =
     subst (λ (lock : Option LockId). IsToConfirm (length s.threads) (length s.locks) t lock path) (asks-present s t (phases.Confirm path) l is)

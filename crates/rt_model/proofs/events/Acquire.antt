@@ -1,12 +1,11 @@
 -- Acquires: how they come about, and that their choice reads only what they touch.
-use Rattle.std.proofs.Common.{◌≡◌, ◌⊎◌, inl, inr, ◌<◌, length, Bool, true, false, cond, not, ◌&&◌, refl, sym, ap, ◌∙◌, subst, Option, Some, None, is_none}
+use Rattle.std.proofs.Common.{◌≡◌, ◌⊎◌, inl, inr, ◌<◌, length, Bool, true, false, cond, not, ◌&&◌, refl, sym, ap, ◌∙◌, Option, Some, None, is_none, subst}
 use Rattle.rt_base.specs.declared.call.Call.{Call}
 use Rattle.rt_base.specs.declared.call.Call.TheVariants as calls
 use Rattle.rt_base.specs.declared.id.Cpu.{Cpu}
 use Rattle.rt_base.specs.declared.id.LockId.{LockId}
 use Rattle.rt_base.specs.declared.id.TaskId.{TaskId}
 use Rattle.rt_base.specs.declared.kind.Kind.{Kind}
-use Rattle.rt_base.specs.declared.reply.Reply.TheVariants.{Got}
 use Rattle.rt_model.specs.declared.event.Event.{Event}
 use Rattle.rt_model.specs.declared.obj.Obj.TheVariants as objects
 use Rattle.rt_model.specs.declared.phase.Phase.{Phase}
@@ -15,7 +14,6 @@ use Rattle.rt_model.specs.Parts.{OwnerPart, TaskPart, call_of, hold_of, kind_of}
 use Rattle.rt_model.specs.Rows.{can_take}
 use Rattle.rt_model.specs.Choice.{called_lock}
 use Rattle.rt_model.specs.State.{State, Shared, lock_in, task_in, owner_part, task_part, thread_part}
-use Rattle.rt_model.specs.steps.Thread.{got_answer, with_hold, holds_after}
 use Rattle.rt_model.specs.Footprint.{touches}
 use Rattle.rt_model.specs.events.Wait.{is_awake}
 use Rattle.rt_model.specs.events.Acquire.{fast_event, mark_event, is_free, acquire_event, take_event, take_or, busy_event, try_event}
@@ -146,6 +144,20 @@ take-acquiring s t l (from_slow asks) = record { call = asks.call; calling = ask
 take-acquiring s t l (from_wait asks awake) = record { call = asks.call; calling = asks.at.calling; acquires = inl asks.waits_for }
 take-acquiring s t l (from_trying at) = record { call = at.call; calling = at.at.calling; acquires = inr at.tries_for }
 
+-- what holds of the phases that it may be in holds of its phase
+pub asks-phased : (P : Phase → Type 0) (s : State) (t : TaskId) (l : LockId) → AsksBy s t l → P phases.Start → P phases.Inner → P (thread_part s t).phase
+asks-phased P s t l (from_start asks unheld) start inner = subst P (sym asks.at.phased) start
+asks-phased P s t l (from_reading asks) start inner = subst P (sym asks.at.phased) inner
+
+pub fast-phased : (P : Phase → Type 0) (s : State) (t : TaskId) (l : LockId) → AcquiresIn s t l → P phases.Start → P phases.Inner → P (thread_part s t).phase
+fast-phased P s t l (by_asking how) start inner = asks-phased P s t l how start inner
+fast-phased P s t l (by_trying at) start inner = subst P (sym at.at.phased) start
+
+pub take-phased : (P : Phase → Type 0) (s : State) (t : TaskId) (l : LockId) → TakesIn s t l → P phases.Slow → P phases.Wait → P phases.Start → P (thread_part s t).phase
+take-phased P s t l (from_slow asks) slow wait start = subst P (sym asks.at.phased) slow
+take-phased P s t l (from_wait asks awake) slow wait start = subst P (sym asks.at.phased) wait
+take-phased P s t l (from_trying at) slow wait start = subst P (sym at.at.phased) start
+
 -- what an acquire leaves of a call: the answer got, with the lock held, or the next step of a reader or a writer
 pub acquiring-holds : (P : Call → Type 0) (call : Call) (l : LockId) → IsAcquireOf l call → P (calls.Lock l) → P (calls.LockInt l) → P (calls.Spin l) → P (calls.TryLock l) → P (calls.TrySpin l)
     → P (calls.Read l) → P (calls.Write l) → P (calls.TryWrite l) → P call
@@ -154,13 +166,6 @@ acquiring-holds P call l (inr tries) lock lockint spin trylock tryspin read writ
 
 pub acquiring-called : (cpu : Cpu) (call : Call) (l : LockId) → IsAcquireOf l call → called_lock cpu call ≡ Some l
 acquiring-called cpu call l is = acquiring-holds (λ c. called_lock cpu c ≡ Some l) call l is refl refl refl refl refl refl refl refl
-
--- with the answer got it holds the lock
-pub got-holds : (s : State) (t : TaskId) (l : LockId) → IsAcquiring s t l → got_answer (call_of (thread_part s t)) ≡ Some Got → holds_after (thread_part s t) (call_of (thread_part s t)) Got ≡ with_hold (thread_part s t) l true
-got-holds s t l is got =
-    subst (λ (c : Option Call). holds_after (thread_part s t) c Got ≡ with_hold (thread_part s t) l true) (sym is.calling)
-    (acquiring-holds (λ c. got_answer (Some c) ≡ Some Got → holds_after (thread_part s t) (Some c) Got ≡ with_hold (thread_part s t) l true) is.call l is.acquires
-    (λ g. refl) (λ g. refl) (λ g. refl) (λ g. refl) (λ g. refl) (λ g. cc) (λ g. cc) (λ g. cc) (subst (λ (c : Option Call). got_answer c ≡ Some Got) is.calling got))
 
 -- ---- what the choice reads
 

@@ -16,7 +16,7 @@ use Rattle.rt_model.specs.laws.KeptTops.{KeptTopsLaw}
 use Rattle.rt_model.specs.laws.Owners.{owned_by}
 use Rattle.rt_model.specs.laws.Rows.{key_at, RowsLaw}
 use Rattle.rt_model.specs.laws.Walks.{IsToConfirm, IsWalkOf, WalksLaw}
-use Rattle.rt_model.proofs.Numbers.{same_task, same_lock, number_itself}
+use Rattle.rt_model.proofs.Numbers.{owner-is, same_lock, number_itself}
 use Rattle.rt_model.proofs.graph.Turned.{links-first}
 
 -- ---- who is blocked on a lock
@@ -41,10 +41,6 @@ blocked-lock (Some at) l is =
 
 -- ---- a link stands exactly where it is an edge
 
-pub owned-is : (owner : Option TaskId) (t : TaskId) → owned_by owner t ≡ true → owner ≡ Some t
-owned-is None t is = absurd cc
-owned-is (Some o) t is = ap Some (same_task o t is)
-
 -- a key is kept by the owner alone
 kept-owned : (b : Bool) (key : Option ℕ) → is_some (cond b key None) ≡ true → b ≡ true
 kept-owned true key is = refl
@@ -61,7 +57,7 @@ module _ (s : State) (made : ℕ) (kept : KeptTopsLaw s) (rows : RowsLaw s made)
       let both = and_parts (is_blocked_on link.lock (task_part s link.from)) (keeps_top link.lock (task_part s link.to)) is in
       record {
         blocked = both.0;
-        owned = owned-is (owner_part s link.lock).owner link.to
+        owned = owner-is (owner_part s link.lock).owner link.to
             (kept-owned (owned_by (owner_part s link.lock).owner link.to) (top_key (owner_part s link.lock).rows) (ap (λ (o : Option ℕ). is_some o) (sym (kept link.lock link.to)) ∙ both.1));
       }
 

@@ -21,9 +21,8 @@ use Rattle.rt_model.specs.laws.Owners.{owned_by}
 use Rattle.rt_model.specs.laws.Priorities.{waiting_keys}
 use Rattle.rt_model.specs.laws.Rest.{IsAtRest}
 use Rattle.rt_model.specs.laws.Rows.{key_at}
-use Rattle.rt_model.proofs.Numbers.{number_itself}
+use Rattle.rt_model.proofs.Numbers.{owner-is, number_itself}
 use Rattle.rt_model.proofs.Queues.{find-holds, own-row}
-use Rattle.rt_model.proofs.graph.Standing.{owned-is}
 use Rattle.rt_model.proofs.graph.Turned.{All-front, All-back}
 use Rattle.rt_model.proofs.laws.Priorities.{priority-law}
 
@@ -168,7 +167,7 @@ module _ (s : State) (made : ℕ) (lawful : IsLawful s made) where
             let some : is_some (queued_key u (owner_part s l).rows) ≡ true = ap (λ (o : Option ℕ). is_some o) is in
             let blocked : is_some (key_at (task_part s u).blocked l) ≡ true = ap (λ (o : Option ℕ). is_some o) (sym (lawful.rows.rows l u)) ∙ some in
             let key : row.key ≡ effective_of (task_part s u) = (let there = queued u l some in cc) in
-            inr (record { task = u; leads = (l, record { blocked = blocked; owned = owned-is (owner_part s l).owner t owned }); is = key })
+            inr (record { task = u; leads = (l, record { blocked = blocked; owned = owner-is (owner_part s l).owner t owned }); is = key })
 
         behind : (i : ℕ) → owned_by (unwrap_or (slice_get s.locks i) free_lock).owner t ≡ true → All (λ (row : Row). One row.key) (unwrap_or (slice_get s.locks i) free_lock).rows
         behind i owned =

@@ -313,8 +313,20 @@ module _ (s : State) (t : TaskId) (e : Event) (answer : Reply) (of : of_wait ans
       other e refl
       (reading-holds (λ phase x. of_reply x.reply ≡ false) s t l e is
       (record {
-        read = refl; let_in = refl; shut = refl; tryshut = refl; out = out-other (wakes_writer (without_reader (reader_part s l))); wwake = refl; unbias = refl;
-        written = refl; late = refl; sleep = refl; again = refl; given_up = refl; opened = refl; downgraded = refl;
+        read = refl;
+        let_in = refl;
+        shut = refl;
+        tryshut = refl;
+        out = out-other (wakes_writer (without_reader (reader_part s l)));
+        wwake = refl;
+        unbias = refl;
+        written = refl;
+        late = refl;
+        sleep = refl;
+        again = refl;
+        given_up = refl;
+        opened = refl;
+        downgraded = refl;
       }))
   answers (by_walk route u (is_walk l key is)) = short_done route u _ is.how (told _ is.event)
   answers (by_walk route u (is_walkend is)) = short_done route u _ is.how (told _ is.event)

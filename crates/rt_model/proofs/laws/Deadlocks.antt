@@ -68,7 +68,7 @@ module _ (s : State) (made : ℕ) (events : List Event) (lawful : IsLawful s mad
       let l : LockId = held.0 in
       let there = lawful-there s made events lawful run before (e ∷ rest) is in
       let same : kind_of (thread_part s e.task) l ≡ kind_of (thread_part (after s before) e.task) l
-          = ap (λ (known : List Kind). unwrap_or (slice_get known l.0) Mutex) (sym (kinds-along s made before e.task lawful (run-prefix s before (e ∷ rest) (subst (IsRun s) (sym is) run)))) in
+      = ap (λ (known : List Kind). unwrap_or (slice_get known l.0) Mutex) (sym (kinds-along s made before e.task lawful (run-prefix s before (e ∷ rest) (subst (IsRun s) (sym is) run)))) in
       record {
         kind = ap (λ (x : Event). x.kind) own.event;
         held = (l, held.1, (λ i. holder_of (same i) (holder-told s made events lawful run free before (e ∷ rest) l is i)) ∙ holds-alone (after s before) (made + length before) e.task l there own.at.phased held.2);

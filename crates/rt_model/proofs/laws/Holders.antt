@@ -187,7 +187,7 @@ module _ (s : State) (made : ℕ) (t : TaskId) (e : Event) (lawful : IsLawful s 
       by_how : ReturnsBy s t l is.call → is_writing thread l ≡ false
       by_how (from_hold releases at held) =
           let other : has_readers (kind_of thread l) ≡ false = releases-holds (λ c. IsForKind thread.kinds c → has_readers (kind_of thread l) ≡ false) is.call l releases
-              (ap (λ (k : Option Kind). has_readers (unwrap_or k locks.Mutex))) (ap (λ (k : Option Kind). has_readers (unwrap_or k locks.Mutex))) (call-fits s t is.call lawful.stage is.calling) in
+          (ap (λ (k : Option Kind). has_readers (unwrap_or k locks.Mutex))) (ap (λ (k : Option Kind). has_readers (unwrap_or k locks.Mutex))) (call-fits s t is.call lawful.stage is.calling) in
           ap (λ (b : Bool). b && (hold_of thread l).owns && not (is_inside thread l)) other
       by_how (from_inside ends at) =
           let inside = inside-its s t l phases.Release is.call at refl (ends-called thread.cpu is.call l ends) in

@@ -35,7 +35,7 @@ use Rattle.rt_model.proofs.Links.{walked_thread, requeued-owner, link-thread, en
 use Rattle.rt_model.proofs.Lists.{if_some}
 use Rattle.rt_model.proofs.NextEvents.{IsNext, by_own, by_acquire, by_wait, by_release, by_reading, by_walk, by_confirm, by_wakeup, by_setprio, task-IsNext}
 use Rattle.rt_model.proofs.Owned.{changes_owner, owners-kept}
-use Rattle.rt_model.proofs.Reading.{is_idle, reading-leaves, reading-idle, reading-was_idle, reading-left, reading-locks, reading-blocked}
+use Rattle.rt_model.proofs.Reading.{idle-awaits, reading-leaves, reading-idle, reading-was_idle, reading-left, reading-locks, reading-blocked}
 use Rattle.rt_model.proofs.events.Acquire.{from_start, from_reading, AcquiresIn, by_asking, by_trying, asking, is_fast, is_mark, is_take, is_busy}
 use Rattle.rt_model.proofs.events.Readers.{IsReading}
 use Rattle.rt_model.proofs.events.Wait.{is_wait, is_again, is_leave}
@@ -193,12 +193,6 @@ queued_left s made t l e lawful is =
 
 -- ---- of one that reads or writes
 
-idle_awaits : (phase : Phase) (lock : Option LockId) → is_idle phase ≡ true → awaited_in phase lock ≡ None
-idle_awaits phases.Wait lock is = cc
-idle_awaits (phases.Walk cursor route) lock is = cc
-idle_awaits (phases.Confirm path) lock is = cc
-idle_awaits _ lock is = refl
-
 -- only a reader that finds a writer in asks for a lock then, which it doesn't own
 reading_asks : (s : State) (made : ℕ) (t : TaskId) (l : LockId) (e : Event) → IsLawful s made → IsReading s t l e
     → IfSome (asked_in (thread_after (shared s) (thread_part s t) e).phase (present_lock (thread_after (shared s) (thread_part s t) e))) (Free s t)
@@ -218,9 +212,9 @@ queued_reading : (s : State) (made : ℕ) (t : TaskId) (l : LockId) (e : Event) 
 queued_reading s made t l e lawful is =
     let left : ThreadPart = thread_after (shared s) (thread_part s t) e in
     let asked : Option LockId = asked_in left.phase (present_lock left) in
-    let wants : Wants None asked left = record { waits = idle_awaits left.phase (present_lock left) (reading-idle s t l e is); asks = refl } in
+    let wants : Wants None asked left = record { waits = idle-awaits left.phase (present_lock left) (reading-idle s t l e is); asks = refl } in
     stands (state_after s e) t None asked (subst (Wants None asked) (sym (reading-left s t l e is)) wants)
-    (ap blocking (reading-blocked s t l e is t) ∙ (lawful.queued.blocked t ∙ idle_awaits (thread_part s t).phase (present_lock (thread_part s t)) (reading-was_idle s t l e is))) tt
+    (ap blocking (reading-blocked s t l e is t) ∙ (lawful.queued.blocked t ∙ idle-awaits (thread_part s t).phase (present_lock (thread_part s t)) (reading-was_idle s t l e is))) tt
     (if_some asked (Free s t) (Free (state_after s e) t) (λ m named free. ap (λ (lock : OwnerPart). owned_by lock.owner t) (reading-locks s t l e is m) ∙ free) (reading_asks s made t l e lawful is))
 
 queued_own : (s : State) (made : ℕ) (t : TaskId) (e : Event) → IsLawful s made → IsNext s t e → IsQueuedAt (state_after s e) t

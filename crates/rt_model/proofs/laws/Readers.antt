@@ -41,7 +41,7 @@ use Rattle.rt_model.proofs.Numbers.{number_itself, other_number, at_each_task, a
 use Rattle.rt_model.proofs.Looks.{Look, look, look_of, plain_look, writing, off, has_part, is_plain, plain-phase, plain-elsewhere, Facts, Turn, Flags, as_were, its_own, Quiet, quiet-turn, plain-quiet, got-quiet, released-quiet, woken-quiet, slept-quiet, read-turn, let_in-turn, out-turn, last-turn, unbias-turn, open-turn, written-turn}
 use Rattle.rt_model.proofs.Calling.{at_call, served_call, IsIn, Returns, ReturnsBy, from_hold, from_inside, tries-holds, releases-holds, ends-holds, Writes, writes_by, writes-holds, writes-called}
 use Rattle.rt_model.proofs.Inside.{present-at, inside-gives, unowned-unheld}
-use Rattle.rt_model.proofs.events.Acquire.{AsksBy, from_start, from_reading, AcquiresIn, by_asking, by_trying, TakesIn, from_slow, from_wait, from_trying, is_fast, is_mark, is_take, is_busy, IsAcquiring, fast-acquiring, take-acquiring, acquiring-holds}
+use Rattle.rt_model.proofs.events.Acquire.{is_fast, is_mark, is_take, is_busy, IsAcquiring, fast-acquiring, take-acquiring, asks-phased, fast-phased, take-phased, acquiring-holds}
 use Rattle.rt_model.proofs.events.Release.{is_free, is_give}
 use Rattle.rt_model.proofs.events.Wait.{is_wait, is_again, is_leave}
 use Rattle.rt_model.proofs.events.Walk.{is_walk, is_walkend, is_restart, is_cycle}
@@ -203,7 +203,7 @@ module _ (s : State) (made : ℕ) (t : TaskId) (e : Event) (lawful : IsLawful s 
 
       few_left : (m : LockId) (u : TaskId) → (hold_of (thread_part (state_after s e) u) m).reads ≤ (thread_part (state_after s e) u).answered
       few_left m u = at_each_task (λ v. (hold_of (thread_part (state_after s e) v) m).reads ≤ (thread_part (state_after s e) v).answered) t u (turn m).few
-        (λ ne. subst (λ (thread : ThreadPart). (hold_of thread m).reads ≤ thread.answered) (sym (others u ne)) (lawful.readers.few m u))
+          (λ ne. subst (λ (thread : ThreadPart). (hold_of thread m).reads ≤ thread.answered) (sym (others u ne)) (lawful.readers.few m u))
 
       Turned : LockId → Type 0
       Turned m = Flags (look (thread_part s t) m) (look (thread_part (state_after s e) t) m) (reader_part s m) (reader_part (state_after s e) m)
@@ -371,7 +371,7 @@ module _ (s : State) (made : ℕ) (t : TaskId) (lawful : IsLawful s made) where
       -- it goes on in another phase
       goes : (x : Event) (onward : Phase) (cell : ReaderCell) → IsEvent x (record th { phase = onward }) → Cells l cell
           → (Facts (seen_in l phase call) (reader_part s l)
-              → Turn (seen_in l phase call) (seen_in l onward call) (reader_part s l) cell) → ReadersLaw (state_after s e)
+          → Turn (seen_in l phase call) (seen_in l onward call) (reader_part s l) cell) → ReadersLaw (state_after s e)
       goes x onward cell event cells here =
           turns-at x (record th { phase = onward }) cell event cells
           (λ known. subst (λ (a : Look). Turn (seen_in l phase call) a (reader_part s l) cell) (sym (seen l phase call at about onward)) (here known))
@@ -380,7 +380,7 @@ module _ (s : State) (made : ℕ) (t : TaskId) (lawful : IsLawful s made) where
       -- or is answered, and holds the lock so
       ends : (x : Event) (p : Phase) (answer : Reply) (hold : Hold) (cell : ReaderCell) → IsEvent x (answered_with (record th { phase = p }) (Some answer)) → Holding th l hold (holds_after (record th { phase = p }) (Some call) answer) → Cells l cell
           → (Facts (seen_in l phase call) (reader_part s l)
-              → Turn (seen_in l phase call) (after_at l hold) (reader_part s l) cell) → ReadersLaw (state_after s e)
+          → Turn (seen_in l phase call) (after_at l hold) (reader_part s l) cell) → ReadersLaw (state_after s e)
       ends x p answer hold cell event holding cells here =
           turns-at x left cell event cells
           (λ known. subst (λ (h : Hold). Turn (seen_in l phase call) (after_at l h) (reader_part s l) cell) (sym (held l ∙ holding.here)) (here known))
@@ -561,7 +561,7 @@ module _ (s : State) (made : ℕ) (t : TaskId) (lawful : IsLawful s made) where
     gets_in : (l : LockId) (phase : Phase) (call : Call) (x : Event) → Writes call l → IsMade s t l phase call x e → x.task ≡ t → thread_after (shared s) (thread_part s x.task) x ≡ answered_with th (Some replies.Got)
         → Cells l (with_writer (reader_part s l))
         → (Facts (seen_in l phase call) (reader_part s l) → has_readers (kind_of th l) ≡ true
-            → Turn (seen_in l phase call) (after_at l (record (hold_of th l) { owns = true })) (reader_part s l) (with_writer (reader_part s l)))
+        → Turn (seen_in l phase call) (after_at l (record (hold_of th l) { owns = true })) (reader_part s l) (with_writer (reader_part s l)))
         → ReadersLaw (state_after s e)
     gets_in l phase call x writes is own left cells turn =
         let about : called_lock th.cpu call ≡ Some l = writes-called th.cpu call l writes in
@@ -646,18 +646,8 @@ module _ (s : State) (made : ℕ) (t : TaskId) (lawful : IsLawful s made) where
         plain (by_leave i) = refl
         plain (by_cycle path o m rest i round owned) = refl
 
-    asks-plain : (l : LockId) → AsksBy s t l → is_plain th.phase ≡ true
-    asks-plain l (from_start asks unheld) = ap is_plain asks.at.phased
-    asks-plain l (from_reading asks) = ap is_plain asks.at.phased
-
-    fast-plain : (l : LockId) → AcquiresIn s t l → is_plain th.phase ≡ true
-    fast-plain l (by_asking how) = asks-plain l how
-    fast-plain l (by_trying at) = ap is_plain at.at.phased
-
-    take-plain : (l : LockId) → TakesIn s t l → is_plain th.phase ≡ true
-    take-plain l (from_slow asks) = ap is_plain asks.at.phased
-    take-plain l (from_wait asks awake) = ap is_plain asks.at.phased
-    take-plain l (from_trying at) = ap is_plain at.at.phased
+    abbrev IsPlain : Phase → Type 0
+    IsPlain phase = is_plain phase ≡ true
 
     waits-plain : (l : LockId) (owner : Option TaskId) (blocked : Bool) → is_plain (phase_after_wait t (Some l) owner blocked) ≡ true
     waits-plain l (Some o) true = refl
@@ -673,10 +663,10 @@ module _ (s : State) (made : ℕ) (t : TaskId) (lawful : IsLawful s made) where
     by_kind : IsNext s t e → ReadersLaw (state_after s e)
     by_kind (by_own call answer is) =
         plain-event _ _ is.event refl is.at.task refl refl (answered th.phase answer (holds_at th call answer is.at.calling ∙ refused_holds th call answer (own-refuses s t call answer e is)) (ap is_plain is.at.phased))
-    by_kind (by_acquire l (is_fast is)) = acquires _ l is.event refl is.task is.lock refl is.owner (fast-acquiring s t l is.how) (fast-plain l is.how) refl
-    by_kind (by_acquire l (is_mark is)) = plain-event _ _ is.event refl is.task refl refl (moved phases.Slow refl (asks-plain l is.how))
+    by_kind (by_acquire l (is_fast is)) = acquires _ l is.event refl is.task is.lock refl is.owner (fast-acquiring s t l is.how) (fast-phased IsPlain s t l is.how refl refl) refl
+    by_kind (by_acquire l (is_mark is)) = plain-event _ _ is.event refl is.task refl refl (moved phases.Slow refl (asks-phased IsPlain s t l is.how refl refl))
     by_kind (by_acquire l (is_take is)) =
-        acquires _ l is.event refl is.task is.lock refl (unowned-can_take t (kind_of th l) (owner_part s l) (task_part s t) is.can) (take-acquiring s t l is.how) (take-plain l is.how) refl
+        acquires _ l is.event refl is.task is.lock refl (unowned-can_take t (kind_of th l) (owner_part s l) (task_part s t) is.can) (take-acquiring s t l is.how) (take-phased IsPlain s t l is.how refl refl refl) refl
     by_kind (by_acquire l (is_busy is)) =
         let p : Phase = phase_after_busy (call_of th) th.phase in
         plain-event _ _ is.event refl is.at.at.task refl refl

@@ -26,7 +26,7 @@ use Rattle.rt_model.specs.Rules.{touched, effect}
 use Rattle.rt_model.specs.StateAfter.{update, effect_in, lock_left, tasks_left, shared_after, thread_after, state_after}
 use Rattle.rt_model.specs.steps.Thread.{holds_after, answered_with}
 use Rattle.rt_model.specs.Stage.{IsServed, IsForKind, IsStaged}
-use Rattle.rt_model.specs.laws.Shape.{calls_of, IsShaped, IsOf, IsWithin, SameSize}
+use Rattle.rt_model.specs.laws.Shape.{calls_of, IsShaped, IsOf, IsWithin}
 use Rattle.rt_model.proofs.Lists.{length-update, All-update, All-default, length-at_lock, length-at_task, All-at_lock, All-at_task}
 use Rattle.rt_model.proofs.Queues.{All-insert_row}
 use Rattle.rt_model.proofs.CellStepLemmas.{restored-like, leave_queue-like, interrupted-like, blocked_on-like, writer_rests-like, woken_by-like, lock_woken-like, length-with_top, length-where_changed}
@@ -241,12 +241,3 @@ IsOf-after script s e lt is = record {
 
 pub IsOf-threads : (script : Script) (s : State) → IsOf script s → length s.threads ≡ length script.tasks
 IsOf-threads script s is = sym (length-map s.threads (λ (thread : ThreadPart). thread.calls)) ∙ (ap length is.calls ∙ length-map script.tasks _)
-
--- two states of one script have one size
-pub SameSize-of : (script : Script) (s other : State) → IsOf script s → IsOf script other → SameSize s other
-SameSize-of script s other is is_other = record {
-  locks = is_other.locks ∙ sym is.locks;
-  readers = is_other.readers ∙ sym is.readers;
-  tasks = is_other.tasks ∙ sym is.tasks;
-  threads = IsOf-threads script other is_other ∙ sym (IsOf-threads script s is);
-}

@@ -224,8 +224,20 @@ module _ (s : State) (made : ℕ) (e : Event) (lawful : IsLawful s made) (next :
           up-as s made e.task e lawful next e refl (stays e.kind quiet)
           (reading-holds (λ phase x. of_sleeper x.kind ≡ false → has_slept phase ≡ false) s e.task l e is
           (record {
-            read = λ k. refl; let_in = λ k. refl; shut = λ k. refl; tryshut = λ k. refl; out = λ k. refl; wwake = λ k. refl; unbias = λ k. refl;
-            written = λ k. cc; late = λ k. cc; sleep = λ k. cc; again = λ k. cc; given_up = λ k. refl; opened = λ k. refl; downgraded = λ k. refl;
+            read = λ k. refl;
+            let_in = λ k. refl;
+            shut = λ k. refl;
+            tryshut = λ k. refl;
+            out = λ k. refl;
+            wwake = λ k. refl;
+            unbias = λ k. refl;
+            written = λ k. cc;
+            late = λ k. cc;
+            sleep = λ k. cc;
+            again = λ k. cc;
+            given_up = λ k. refl;
+            opened = λ k. refl;
+            downgraded = λ k. refl;
           }) quiet)
 
   still_waits : changes_own e.kind ≡ false → of_sleeper e.kind ≡ false → waiting_after e.kind waited ≡ waits_then

@@ -1,14 +1,12 @@
 -- The states of tasks and the answers of wakeups along a run are the flat wakeup machine's.
-use Rattle.std.proofs.Common.{◌≡◌, ℕ, suc, ◌+◌, Bool, true, false, ◌||◌, List, [], ◌∷◌, ◌++◌, length, refl, sym, ap, ◌∙◌, subst, Option, Some, None}
-use Rattle.std.specs.Prelude.{is_some, nat_lt}
+use Rattle.std.proofs.Common.{◌≡◌, ℕ, suc, ◌+◌, true, false, ◌||◌, List, [], ◌∷◌, ◌++◌, length, refl, sym, ap, ◌∙◌, subst, Option, Some, None}
+use Rattle.std.specs.Prelude.{is_some}
 use Rattle.std.specs.List.{fold}
 use Rattle.rt_base.specs.Script.{Script, TaskLine}
 use Rattle.rt_base.specs.declared.call.Call.{Call}
 use Rattle.rt_base.specs.declared.call.Call.TheVariants as calls
 use Rattle.rt_base.specs.declared.id.LockId.{LockId}
 use Rattle.rt_base.specs.declared.id.TaskId.{TaskId}
-use Rattle.rt_base.specs.declared.kind.Kind.{Kind}
-use Rattle.rt_base.specs.declared.kind.Kind.TheVariants.{RwSem}
 use Rattle.rt_base.specs.declared.reply.Reply.{Reply}
 use Rattle.rt_base.specs.declared.reply.Reply.TheVariants as replies
 use Rattle.rt_model.specs.declared.event.Event.{Event}
@@ -21,7 +19,6 @@ use Rattle.rt_model.specs.Stage.{IsToCome}
 use Rattle.rt_model.specs.steps.Chain.{answer_of_walk}
 use Rattle.rt_model.specs.steps.Readers.{without_reader, wakes_writer}
 use Rattle.rt_model.specs.steps.Thread.{got_answer, released_answer}
-use Rattle.rt_model.specs.events.Own.{if_held, if_not_held, unless_nested, private_answer}
 use Rattle.rt_model.specs.State.{State, start, fresh_task, fresh_thread, kinds_in, no_task, no_thread, reader_part, task_part, thread_part}
 use Rattle.rt_model.specs.StateAfter.{state_after}
 use Rattle.rt_model.specs.Run.{after, IsRun}
@@ -46,6 +43,7 @@ use Rattle.rt_model.proofs.events.Walk.{WalksIn, by_full, by_short, is_walk, is_
 use Rattle.rt_model.proofs.laws.Shape.{IsOf-after}
 use Rattle.rt_model.proofs.laws.Flat.{flat_at, rested-beneath, rested-saves, wake-answer, signal-answer}
 use Rattle.rt_model.proofs.laws.Holders.{other_kind}
+use Rattle.rt_model.proofs.laws.Owners.{is_refusal, own-refuses}
 use Rattle.rt_model.proofs.laws.Tracked.{tracked_at, targeted, tracks}
 
 -- ---- along a run
@@ -121,43 +119,13 @@ module _ (s : State) (made : ℕ) (e : Event) (lawful : IsLawful s made) where
 abbrev Quiet : Option Reply → Type 0
 Quiet reply = tells_wakeup reply ≡ false
 
-quiet-held : (held : Bool) → Quiet (if_held held)
-quiet-held true = refl
-quiet-held false = refl
+-- a refusal is no such answer
+quiet-refused : (answer : Reply) → is_refusal answer ≡ true → Quiet (Some answer)
+quiet-refused replies.Woke refuses = cc
+quiet-refused replies.Missed refuses = cc
+quiet-refused _ refuses = refl
 
-quiet-not_held : (held : Bool) → Quiet (if_not_held held)
-quiet-not_held true = refl
-quiet-not_held false = refl
-
-quiet-nested : (n : ℕ) (reply : Option Reply) → Quiet reply → Quiet (unless_nested n reply)
-quiet-nested n reply quiet = cond_both (nat_lt 0 n) (Some replies.Nesting) reply Quiet (λ is. refl) (λ is. quiet)
-
-quiet-read : (l : LockId) (kind : Option Kind) (nested : ℕ) (held : Bool) (migration : ℕ) → Quiet (private_answer (calls.Read l) kind nested held migration)
-quiet-read l (Some RwSem) nested held migration = quiet-nested nested (if_held held) (quiet-held held)
-quiet-read l _ nested held migration = quiet-held held
-
-quiet-write : (l : LockId) (kind : Option Kind) (nested : ℕ) (held : Bool) (migration : ℕ) → Quiet (private_answer (calls.Write l) kind nested held migration)
-quiet-write l (Some RwSem) nested held migration = quiet-nested nested (if_held held) (quiet-held held)
-quiet-write l _ nested held migration = quiet-held held
-
-quiet-own : (call : Call) (kind : Option Kind) (nested : ℕ) (held : Bool) (migration : ℕ) → Quiet (private_answer call kind nested held migration)
-quiet-own (calls.Lock l) kind nested held migration = quiet-nested nested (if_held held) (quiet-held held)
-quiet-own (calls.LockInt l) kind nested held migration = quiet-nested nested (if_held held) (quiet-held held)
-quiet-own (calls.Spin l) kind nested held migration = quiet-held held
-quiet-own (calls.Local l) kind nested held migration = quiet-held held
-quiet-own (calls.Read l) kind nested held migration = quiet-read l kind nested held migration
-quiet-own (calls.Write l) kind nested held migration = quiet-write l kind nested held migration
-quiet-own (calls.Unlock l) kind nested held migration = quiet-not_held held
-quiet-own (calls.Unspin l) kind nested held migration = quiet-not_held held
-quiet-own (calls.Unread l) kind nested held migration = quiet-not_held held
-quiet-own (calls.Unwrite l) kind nested held migration = quiet-not_held held
-quiet-own (calls.Downgrade l) kind nested held migration = quiet-not_held held
-quiet-own (calls.Unlocal l) kind nested held migration = quiet-not_held held
-quiet-own calls.Schedule kind nested held migration = quiet-nested nested None refl
-quiet-own (calls.Move cpu) kind nested held migration = cond_both (nat_lt 0 migration) (Some replies.Pinned) None Quiet (λ is. refl) (λ is. refl)
-quiet-own _ kind nested held migration = refl
-
--- nor that of an acquire, or of a release
+-- nor is the answer of an acquire, or of a release
 quiet-got : (call : Option Call) → Quiet (got_answer call)
 quiet-got (Some (calls.Read l)) = refl
 quiet-got (Some (calls.Write l)) = refl
@@ -173,8 +141,20 @@ quiet-reading : (s : State) (t : TaskId) (l : LockId) (e : Event) → IsReading 
 quiet-reading s t l e is =
     reading-holds (λ phase x. Quiet x.reply) s t l e is
     (record {
-      read = refl; let_in = refl; shut = refl; tryshut = refl; out = cond_both (wakes_writer (without_reader (reader_part s l))) None (Some replies.Done) Quiet (λ last. refl) (λ more. refl); wwake = refl; unbias = refl;
-      written = refl; late = refl; sleep = refl; again = refl; given_up = refl; opened = refl; downgraded = refl;
+      read = refl;
+      let_in = refl;
+      shut = refl;
+      tryshut = refl;
+      out = cond_both (wakes_writer (without_reader (reader_part s l))) None (Some replies.Done) Quiet (λ last. refl) (λ more. refl);
+      wwake = refl;
+      unbias = refl;
+      written = refl;
+      late = refl;
+      sleep = refl;
+      again = refl;
+      given_up = refl;
+      opened = refl;
+      downgraded = refl;
     })
 
 -- a walk's answer is one that was to come
@@ -199,7 +179,7 @@ wakes s t e (by_wakeup (is_signal v is)) told = ap (λ (x : Event). x.kind) is.e
 wakes s t e (by_wakeup (is_state state is)) told = absurd (others e _ is.event refl told)
 wakes s t e (by_wakeup (is_sched is)) told = absurd (others e _ is.event refl told)
 wakes s t e (by_own call answer is) told =
-    absurd (others e _ is.event (subst Quiet is.why (quiet-own call _ _ _ _)) told)
+    absurd (others e _ is.event (quiet-refused answer (own-refuses s t call answer e is)) told)
 wakes s t e (by_acquire l (is_fast is)) told = absurd (others e _ is.event (quiet-got (call_of (thread_part s t))) told)
 wakes s t e (by_acquire l (is_mark is)) told = absurd (others e _ is.event refl told)
 wakes s t e (by_acquire l (is_take is)) told = absurd (others e _ is.event (quiet-got (call_of (thread_part s t))) told)

@@ -25,7 +25,10 @@ impl Model for MemSink {
 impl MemSink {
     /// An empty sink with room for n bytes. The writes with these numbers fail, counted from 0.
     pub fn with_room(alloc: Global, n: usize, fail: Vec<u32>) -> Result<MemSink, NoMemory>
-        ensures { IfOk result (λ sink. sink ≡ record { kept = record { room = n; bytes = []; is_over = false }; calls = record { fail = fail.items; made = 0; faults = 0 } }) }
+        ensures { IfOk result (λ sink. sink ≡ record {
+          kept = record { room = n; bytes = []; is_over = false };
+          calls = record { fail = fail.items; made = 0; faults = 0 };
+        }) }
     {
         Ok(MemSink {
             sink: PlainSink::with_room(alloc, n)?,

@@ -22,7 +22,10 @@ impl Model for MemSource {
 impl MemSource {
     /// A source of these bytes. The reads with these numbers fail, counted from 0.
     pub fn new(bytes: Vec<u8>, fail: Vec<u32>) -> MemSource
-        ensures { result ≡ record { left = bytes.items; calls = record { fail = fail.items; made = 0; faults = 0 } } }
+        ensures { result ≡ record {
+          left = bytes.items;
+          calls = record { fail = fail.items; made = 0; faults = 0 };
+        } }
     {
         MemSource {
             source: PlainSource::new(bytes),

@@ -30,7 +30,8 @@ pub fn read_whole<S: Source>(
     requires empty { buf.old.items ≡ [] }
     requires limit { limit < 4294967295 }
     ensures taken { Takes (S.left src.old) buf.new.items (S.left src.new) }
-    ensures ended { IfOk result (λ taken. Ends taken buf.new.items limit (S.left src.new) (S.faults src.old) (S.faults src.new)) }
+    ensures ended { IfOk result (λ taken. Ends taken buf.new.items limit (S.left src.new)
+        (S.faults src.old) (S.faults src.new)) }
     ensures no_fault { OnErr result (S.faults src.new ≡ S.faults src.old) }
     ensures within { length buf.new.items ≤ limit + 1 }
     ensures over { IfOk result (λ taken. (taken ≡ Taken.Over) ↔ (length buf.new.items ≡ limit + 1)) }

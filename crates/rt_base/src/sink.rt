@@ -21,7 +21,8 @@ pub trait Sink {
         ensures appended { IfOk result (λ n. Appends (held self.old) (take n piece.now) (held self.new)) }
         ensures some { IfOk result (λ n. 0 < n → faults self.new ≡ faults self.old) }
         ensures empty { length piece.now ≡ 0 → OnOk result (faults self.new ≡ faults self.old) }
-        ensures nothing { IfOk result (λ n. n ≡ 0 → 0 < length piece.now → Rises (faults self.old) (faults self.new)) }
+        ensures nothing { IfOk result (λ n. n ≡ 0 → 0 < length piece.now
+            → Rises (faults self.old) (faults self.new)) }
         ensures err { OnErr result (Appends (held self.old) [] (held self.new)) }
         ensures cause { OnErr result (Rises (faults self.old) (faults self.new)) }
         ensures count { faults self.old ≤ faults self.new };
@@ -74,7 +75,8 @@ impl Sink for PlainSink {
     fn write(&mut self, piece: &[u8]) -> Result<usize, Failed>
         ensures all { result ≡ Ok (length piece.now) }
         ensures kept { self.new ≡ with_piece self.old piece.now }
-        ensures first { (taken : List ℕ) → KeepsFirst self.old taken → KeepsFirst self.new (taken ++ piece.now) }
+        ensures first { (taken : List ℕ) → KeepsFirst self.old taken
+            → KeepsFirst self.new (taken ++ piece.now) }
         ensures appended { Appends (told self.old) piece.now (told self.new) }
     {
         let room = self.room - self.bytes.len();

@@ -84,10 +84,12 @@ impl<W: Write> Sink for StdoutSink<W> {
 
     fn write(&mut self, piece: &[u8]) -> Result<usize, Failed>
         ensures within { IfOk result (λ n. n ≤ length piece.now) }
-        ensures passed_on { IfOk result (λ n. known.Appends self.old.bytes self.new.bytes (take n piece.now)) }
+        ensures passed_on { IfOk result (λ n.
+            known.Appends self.old.bytes self.new.bytes (take n piece.now)) }
         ensures some { IfOk result (λ n. 0 < n → self.new.faults ≡ self.old.faults) }
         ensures empty { length piece.now ≡ 0 → OnOk result (self.new.faults ≡ self.old.faults) }
-        ensures nothing { IfOk result (λ n. n ≡ 0 → 0 < length piece.now → self.new.faults ≡ raised self.old.faults) }
+        ensures nothing { IfOk result (λ n. n ≡ 0 → 0 < length piece.now
+            → self.new.faults ≡ raised self.old.faults) }
         ensures part { OnErr result (AppendsKnownPrefix self.old.bytes self.new.bytes piece.now) }
         ensures err { OnErr result (self.new.faults ≡ raised self.old.faults) }
         ensures count { self.old.faults ≤ self.new.faults }
@@ -103,8 +105,10 @@ impl<W: Write> Sink for StdoutSink<W> {
 /// One write, whose bytes don't stay in a buffer of the writer.
 fn write_through<W: Write>(writer: &mut W, piece: &[u8]) -> io::Result<usize>
     ensures within { IfOk result (λ count. count ≤ length piece.now) }
-    ensures appended { IfOk result (λ count. known.Appends (W.contents writer.old) (W.contents writer.new) (take count piece.now)) }
-    ensures part { OnErr result (AppendsKnownPrefix (W.contents writer.old) (W.contents writer.new) piece.now) }
+    ensures appended { IfOk result (λ count.
+        known.Appends (W.contents writer.old) (W.contents writer.new) (take count piece.now)) }
+    ensures part { OnErr result
+        (AppendsKnownPrefix (W.contents writer.old) (W.contents writer.new) piece.now) }
 {
     let count = writer.write(piece)?;
     writer.flush()?;

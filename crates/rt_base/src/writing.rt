@@ -6,7 +6,8 @@ use crate::{Failed, Sink};
 /// Writes until the piece is taken. It takes no memory. After `Failed` some prefix of the piece was
 /// written.
 pub fn write_whole<K: Sink>(out: &mut K, piece: &[u8]) -> Result<(), Failed>
-    ensures { Writes result (K.held out.old) (K.held out.new) (K.faults out.old) (K.faults out.new) piece.now }
+    ensures { Writes result (K.held out.old) (K.held out.new)
+        (K.faults out.old) (K.faults out.new) piece.now }
 {
     let mut rest = piece;
     while !rest.is_empty() {

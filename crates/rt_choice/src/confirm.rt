@@ -62,7 +62,8 @@ fn restart_event(t: TaskId, link: &Link) -> Chosen
 // `remove_waiter`, with the answer `-EDEADLK`, and then `rt_mutex_handle_deadlock`.
 fn cycle_event(shared: &Shared, t: TaskId, path: &Path) -> Chosen
     requires { CanConfirm shared.now path.now }
-    ensures { result ≡ left_event t Cycle (first_lock path.now) (first_owner path.now) Deadlock (lock_at shared.now (first_lock path.now)) (task_at shared.now (first_owner path.now)) }
+    ensures { result ≡ left_event t Cycle (first_lock path.now) (first_owner path.now) Deadlock
+        (lock_at shared.now (first_lock path.now)) (task_at shared.now (first_owner path.now)) }
 {
     let first = link_at(path, 0);
     left_event(

@@ -22,7 +22,8 @@ use rt_tasks::TaskCell;
 /// the walk's end.
 pub fn cursor_event(shared: &Shared, t: TaskId, route: &Route, u: TaskId) -> Chosen
     requires { IsOnChain shared.now u }
-    ensures { result ≡ cursor_event shared.now t route.now u (task_in shared.now u) (task_in shared.now u).blocked }
+    ensures { result
+        ≡ cursor_event shared.now t route.now u (task_in shared.now u) (task_in shared.now u).blocked }
 {
     match shared.task(u).blocked_at() {
         Some((l, _)) => walk_event(shared, t, route, u, l),
@@ -55,7 +56,8 @@ fn last_answer(route: &Route) -> Option<Reply>
 fn walk_event(shared: &Shared, t: TaskId, route: &Route, u: TaskId, l: LockId) -> Chosen
     requires task { u.0 < length shared.now.tasks }
     requires lock { l.0 < length shared.now.locks }
-    ensures { result ≡ walk_event t route.now u l (lock_in shared.now l) (task_in shared.now u) (task_at shared.now (lock_in shared.now l).owner) }
+    ensures { result ≡ walk_event t route.now u l (lock_in shared.now l) (task_in shared.now u)
+        (task_at shared.now (lock_in shared.now l).owner) }
 {
     let lock = shared.lock(l);
     let top = top_after(lock, u, shared.task(u));
@@ -96,7 +98,8 @@ fn top_after(lock: &LockCell, u: TaskId, cursor: &TaskCell) -> Option<Row>
 // another one then.
 fn effective_after(owner: &TaskCell, l: LockId, changed: bool, top: Option<Row>) -> Prio
     requires { IfSome top (λ row. row.key ≤ MAX_PRIO) }
-    ensures { result ≡ effective_of (if changed then with_top (Some l) (option_map (λ row. row.key) top) owner.now else owner.now) }
+    ensures { result ≡ effective_of
+        (if changed then with_top (Some l) (option_map (λ row. row.key) top) owner.now else owner.now) }
 {
     if changed {
         owner.effective_with(l, key_in(top))

@@ -1,4 +1,4 @@
-ghost use Rattle.std.specs.Prelude.{◌≡◌, ◌≤◌, ◌<◌, length, IfOk, IfSome, All, Option, None, Some};
+ghost use Rattle.std.specs.Prelude.{◌≡◌, ◌≤◌, ◌<◌, length, IfOk, IfSome, All};
 ghost use Rattle.rt_model.specs.Parts.{call_of, kind_of};
 ghost use Rattle.rt_model.specs.State.{fresh_thread};
 ghost use Rattle.rt_model.specs.Stage.{IsServed};
@@ -15,7 +15,7 @@ mod answers;
 mod walk;
 
 use rt_base::limits::{MAX_CALLS, MAX_LOCKS, MAX_TASKS};
-use rt_base::{Call, Cpu, Kind, LockId, NoMemory, TaskId, TaskState};
+use rt_base::{Call, Cpu, Kind, LockId, NoMemory, TaskState};
 use rt_model::{Hold, Phase};
 use std::alloc::Global;
 use std::marker::Model;

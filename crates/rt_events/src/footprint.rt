@@ -1,15 +1,15 @@
 // What an event touches, and whether two events touch an object together.
-ghost use Rattle.std.specs.Prelude.{◌≡◌, ◌↔◌, Bool, true, false, None, List, [], ◌++◌, map, IsTrue};
+ghost use Rattle.std.specs.Prelude.{◌≡◌, ◌↔◌, true, false, None, List, [], ◌++◌, map, IsTrue};
 ghost use Rattle.std.specs.List.{list_any};
 ghost use Rattle.rt_model.specs.Footprint.{same_object, owner_parts, reader_parts, tasks_of, along, objects_of, footprint, touches};
 ghost use Rattle.rt_model.specs.Rules.{touched};
 ghost use Rattle.rt_model.specs.Path.{first_owner};
 ghost use Rattle.rt_model.specs.events.Acquire.{busy_touched};
-ghost use Rattle.rt_model.specs.events.Readers.{where_slept};
 ghost use Rattle.rt_model.specs.declared.obj.Obj.{Obj};
-ghost use Rattle.rt_events.specs.Touched.{path_tasks, Tells};
+ghost use Rattle.rt_events.specs.Touched.{path_tasks, walked_tasks, TellsAny};
 
 use crate::first_link::first_owner;
+use crate::writer::slept;
 use rt_base::{LockId, Path, TaskId};
 use rt_model::{Event, EventKind, Obj};
 
@@ -50,7 +50,7 @@ fn same_object(o: Obj, other: Obj) -> bool
 // Whether some object of an event's footprint passes a test.
 fn any_object<F: Fn(Obj) -> bool>(e: &Event, test: &F) -> bool
     requires { F.IsAlwaysCallable test.now }
-    ensures { (passes : Obj → Bool) → Tells (F.post test.now) passes → result ≡ list_any passes (footprint e.now) }
+    ensures { TellsAny (F.post test.now) (footprint e.now) result }
 {
     test(Obj::Thread(e.task)) || any_besides(e, test)
 }
@@ -58,7 +58,7 @@ fn any_object<F: Fn(Obj) -> bool>(e: &Event, test: &F) -> bool
 // Whether some object passes a test, of those that an event touches besides its thread.
 fn any_besides<F: Fn(Obj) -> bool>(e: &Event, test: &F) -> bool
     requires { F.IsAlwaysCallable test.now }
-    ensures { (passes : Obj → Bool) → Tells (F.post test.now) passes → result ≡ list_any passes (objects_of (touched e.now.kind e.now)) }
+    ensures { TellsAny (F.post test.now) (objects_of (touched e.now.kind e.now)) result }
 {
     let own = Some(e.task);
     match e.kind {
@@ -91,7 +91,7 @@ fn any_besides<F: Fn(Obj) -> bool>(e: &Event, test: &F) -> bool
 // Whether a task of a walk passes a test: its cursor, the lock's owner, or the one that is woken.
 fn any_walked<F: Fn(Obj) -> bool>(e: &Event, test: &F) -> bool
     requires { F.IsAlwaysCallable test.now }
-    ensures { (passes : Obj → Bool) → Tells (F.post test.now) passes → result ≡ list_any passes (tasks_of e.now.owner ++ (tasks_of e.now.other ++ tasks_of e.now.woken)) }
+    ensures { TellsAny (F.post test.now) (walked_tasks e.now) result }
 {
     any_task(e.owner, test) || any_task(e.other, test) || any_task(e.woken, test)
 }
@@ -100,7 +100,7 @@ fn any_walked<F: Fn(Obj) -> bool>(e: &Event, test: &F) -> bool
 // lock.
 fn any_of_cycle<F: Fn(Obj) -> bool>(path: &Path, test: &F) -> bool
     requires { F.IsAlwaysCallable test.now }
-    ensures { (passes : Obj → Bool) → Tells (F.post test.now) passes → result ≡ list_any passes (tasks_of (first_owner path.now) ++ along path.now) }
+    ensures { TellsAny (F.post test.now) (tasks_of (first_owner path.now) ++ along path.now) result }
 {
     any_task(first_owner(path), test) || any_along(path, test)
 }
@@ -109,7 +109,7 @@ fn any_of_cycle<F: Fn(Obj) -> bool>(path: &Path, test: &F) -> bool
 // and where that has no owner its own task.
 fn any_looked_at<F: Fn(Obj) -> bool>(e: &Event, test: &F) -> bool
     requires { F.IsAlwaysCallable test.now }
-    ensures { (passes : Obj → Bool) → Tells (F.post test.now) passes → result ≡ list_any passes (objects_of (busy_touched e.now.value e.now)) }
+    ensures { TellsAny (F.post test.now) (objects_of (busy_touched e.now.value e.now)) result }
 {
     if e.value > 0 {
         any_reader_part(e.lock, test)
@@ -120,20 +120,10 @@ fn any_looked_at<F: Fn(Obj) -> bool>(e: &Event, test: &F) -> bool
     }
 }
 
-// The task of a writer's event, where it has slept: it is named as the owner then.
-fn slept(e: &Event) -> Option<TaskId>
-    ensures { result ≡ where_slept e.now.task e.now.owner }
-{
-    match e.owner {
-        Some(_) => Some(e.task),
-        None => None,
-    }
-}
-
 // Whether a lock's owner part passes a test.
 fn any_owner_part<F: Fn(Obj) -> bool>(lock: Option<LockId>, test: &F) -> bool
     requires { F.IsAlwaysCallable test.now }
-    ensures { (passes : Obj → Bool) → Tells (F.post test.now) passes → result ≡ list_any passes (owner_parts lock) }
+    ensures { TellsAny (F.post test.now) (owner_parts lock) result }
 {
     match lock {
         Some(l) => test(Obj::OwnerPart(l)),
@@ -144,7 +134,7 @@ fn any_owner_part<F: Fn(Obj) -> bool>(lock: Option<LockId>, test: &F) -> bool
 // Whether a lock's reader part passes a test.
 fn any_reader_part<F: Fn(Obj) -> bool>(lock: Option<LockId>, test: &F) -> bool
     requires { F.IsAlwaysCallable test.now }
-    ensures { (passes : Obj → Bool) → Tells (F.post test.now) passes → result ≡ list_any passes (reader_parts lock) }
+    ensures { TellsAny (F.post test.now) (reader_parts lock) result }
 {
     match lock {
         Some(l) => test(Obj::ReaderPart(l)),
@@ -155,7 +145,7 @@ fn any_reader_part<F: Fn(Obj) -> bool>(lock: Option<LockId>, test: &F) -> bool
 // Whether a task passes a test.
 fn any_task<F: Fn(Obj) -> bool>(task: Option<TaskId>, test: &F) -> bool
     requires { F.IsAlwaysCallable test.now }
-    ensures { (passes : Obj → Bool) → Tells (F.post test.now) passes → result ≡ list_any passes (tasks_of task) }
+    ensures { TellsAny (F.post test.now) (tasks_of task) result }
 {
     match task {
         Some(t) => test(Obj::Task(t)),
@@ -166,7 +156,7 @@ fn any_task<F: Fn(Obj) -> bool>(task: Option<TaskId>, test: &F) -> bool
 // Whether the first lock or a task of a path passes a test.
 fn any_along<F: Fn(Obj) -> bool>(path: &Path, test: &F) -> bool
     requires { F.IsAlwaysCallable test.now }
-    ensures { (passes : Obj → Bool) → Tells (F.post test.now) passes → result ≡ list_any passes (along path.now) }
+    ensures { TellsAny (F.post test.now) (along path.now) result }
 {
     if path.len() == 0 {
         return false;
@@ -178,7 +168,7 @@ fn any_along<F: Fn(Obj) -> bool>(path: &Path, test: &F) -> bool
 // Whether a task of a path passes a test.
 fn any_on_path<F: Fn(Obj) -> bool>(path: &Path, test: &F) -> bool
     requires { F.IsAlwaysCallable test.now }
-    ensures { (passes : Obj → Bool) → Tells (F.post test.now) passes → result ≡ list_any passes (path_tasks path.now) }
+    ensures { TellsAny (F.post test.now) (path_tasks path.now) result }
 {
     for i in 0..path.len() {
         let (t, _) = path.at(i);

@@ -13,6 +13,7 @@ mod state_numbers;
 mod tests;
 mod well_formed;
 mod words;
+mod writer;
 
 pub use appending::{append, push_byte, push_digits, push_number, push_word};
 pub use entry::{Entry, entry_of};
@@ -24,3 +25,4 @@ pub use rt_model::{Event, EventKind, Obj};
 pub use state_numbers::{state_number, state_numbered};
 pub use well_formed::is_well_formed;
 pub use words::{WORD_ROOM, push_lock, push_task, push_task_or_dash};
+pub use writer::slept;

@@ -146,7 +146,7 @@ fn has_links(script: &Script, path: &Path) -> bool
 }
 
 fn has_boost(script: &Script, boost: Option<(TaskId, Prio)>) -> bool
-    ensures { IsTrue result ↔ IfSome boost (λ boost. IsTaskIn script.now boost.0 × (boost.1 ≤ MAX_PRIO)) }
+    ensures { IsTrue result ↔ IfSome boost (λ to. IsTaskIn script.now to.0 × (to.1 ≤ MAX_PRIO)) }
 {
     match boost {
         Some((t, prio)) => is_task_in(script, t) && prio.get() <= MAX_PRIO,

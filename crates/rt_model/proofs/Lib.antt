@@ -2,6 +2,7 @@
 pub mod Lists
 pub mod Numbers
 pub mod Counts
+pub mod ReaderCounts
 pub mod Holds
 pub mod CellStepLemmas
 pub mod Queues

@@ -21,6 +21,7 @@ use Rattle.rt_model.specs.laws.Lawful.{IsLawful}
 use Rattle.rt_model.specs.laws.Readers.{has_come, coming, going, readers_by}
 use Rattle.rt_model.specs.laws.Shape.{calls_of}
 use Rattle.rt_model.proofs.Counts.{sum-less}
+use Rattle.rt_model.proofs.ReaderCounts.{none-comes, readers-most, readers-less}
 use Rattle.rt_model.proofs.Calling.{IsIn, writes-called}
 use Rattle.rt_model.proofs.Looks.{Facts, off, out}
 use Rattle.rt_model.proofs.NextEvents.{IsNext, by_own, by_acquire, by_wait, by_release, by_reading, by_walk, by_confirm, by_wakeup, by_setprio}
@@ -31,38 +32,6 @@ use Rattle.rt_model.proofs.events.Wait.{is_wait, is_again, is_leave}
 use Rattle.rt_model.proofs.events.Wakeups.{is_state, is_sched, is_wake, is_signal}
 use Rattle.rt_model.proofs.events.Walk.{is_walk, is_walkend, is_restart, is_cycle}
 use Rattle.rt_model.proofs.laws.Readers.{seen_in, known, reader_kind, fits}
-
--- ---- how many readers there are
-
-module _ (l : LockId) (thread : ThreadPart) (within : thread.answered ≤ length thread.calls) (few : (hold_of thread l).reads ≤ thread.answered) where
-  one-most : (b : Bool) → cond b 1 0 ≤ 1
-  one-most true = omega arith
-  one-most false = omega arith
-
-  no_call : (phase : Phase) → has_come phase None ≡ false
-  no_call phases.Release = refl
-  no_call _ = refl
-
-  -- where its call isn't one that came
-  pub none-comes : has_come thread.phase (call_of thread) ≡ false → coming thread l ≡ 0
-  none-comes not_yet = λ i. cond (not_yet i && is_on (present_lock thread) l) 1 0
-
-  -- a thread is one reader for each of its calls at most
-  readers-most : readers_by thread l ≤ length thread.calls
-  readers-most = by_call (call_of thread) refl
-    where
-      by_call : (call : Option Call) → call_of thread ≡ call → (hold_of thread l).reads + coming thread l - going thread l ≤ length thread.calls
-      by_call None none =
-          let nobody = none-comes (ap (has_come thread.phase) none ∙ no_call thread.phase) in
-          omega (arith, within, few, nobody)
-      by_call (Some call) calling =
-          let one : coming thread l ≤ 1 = one-most (has_come thread.phase (call_of thread) && is_on (present_lock thread) l) in
-          omega (arith, slice_get_within thread.calls thread.answered call calling, few, one)
-
-  -- and fewer, where the call that it is at isn't one
-  readers-less : (call : Call) → call_of thread ≡ Some call → coming thread l ≡ 0 → readers_by thread l < length thread.calls
-  readers-less call calling nobody =
-      let less : (hold_of thread l).reads + coming thread l - going thread l < length thread.calls = omega (arith, slice_get_within thread.calls thread.answered call calling, few, nobody) in less
 
 -- so a lock has fewer readers than a script may have calls, where one more comes
 fewer : (s : State) (made : ℕ) (t : TaskId) (l : LockId) (phase : Phase) (call : Call) → IsLawful s made → IsIn s t phase call → has_come phase (Some call) ≡ false → (reader_part s l).count < MAX_CALLS

@@ -27,7 +27,7 @@ use Rattle.rt_model.specs.Choice.{present_lock}
 use Rattle.rt_model.specs.State.{start, free_lock, fresh_task, fresh_thread, no_readers, kinds_in, owner_part, reader_part, task_part, thread_part}
 use Rattle.rt_model.specs.Stage.{IsPlayed, IsPlayable, IsServed, HasReadersAt, IsForKind, IsStaged, IsPhaseOf}
 use Rattle.rt_model.specs.Path.{Link, links_to, Edge, IsCycle}
-use Rattle.rt_model.specs.laws.Shape.{IsShaped, IsOf}
+use Rattle.rt_model.specs.laws.Shape.{calls_of, IsShaped, IsOf}
 use Rattle.rt_model.specs.laws.Rows.{IsQueue, RowsLaw, key_at}
 use Rattle.rt_model.specs.laws.KeptTops.{kept_of}
 use Rattle.rt_model.specs.laws.Owners.{owned_by, has_inner, is_inside, OwnersLaw}
@@ -239,6 +239,7 @@ module _ (script : Script) where
     count = λ l. ap (λ (cell : ReaderCell). cell.count) (cell-start l) ∙ sym (no_reader l);
     gone = λ l t. each_thread (λ thread. going thread l ≤ (hold_of thread l).reads) t (λ kinds cs cpu. omega arith);
     few = λ l t. each_thread (λ thread. (hold_of thread l).reads ≤ thread.answered) t (λ kinds cs cpu. omega (arith, unread kinds cs cpu l));
+    most = λ l. subst (λ (cell : ReaderCell). cell.count ≤ calls_of (start script).threads) (sym (cell-start l)) (omega arith);
     within = λ t. each_thread (λ thread. thread.answered ≤ length thread.calls) t (λ kinds cs cpu. omega arith);
   }
 

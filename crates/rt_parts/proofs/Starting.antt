@@ -9,14 +9,10 @@ use Rattle.rt_base.specs.declared.limits.TheConstants.{MAX_TASKS}
 use Rattle.rt_model.specs.Stage.{IsServed}
 use Rattle.rt_model.specs.declared.reader_cell.ReaderCell.{ReaderCell}
 use Rattle.rt_model.specs.Parts.{TaskPart}
-use Rattle.rt_model.specs.State.{free_lock, fresh_task}
+use Rattle.rt_model.specs.State.{fresh_task}
 use Rattle.rt_model.proofs.Lists.{All-made}
 use Rattle.rt_locks.specs.OwnerCell.{OwnerCell}
-use Rattle.rt_parts.specs.Shared.{IsAmong, IsShared}
-
--- a free lock's cell, for so many tasks
-abbrev free_cell : ℕ → OwnerCell
-free_cell tasks = record { part = free_lock; tasks = tasks }
+use Rattle.rt_parts.specs.Shared.{free_cell, IsAmong, IsShared}
 
 pub start-fits : (n : ℕ) (lines : List TaskLine) (cells : List OwnerCell) (readers : List ReaderCell) (tasks : List TaskPart) (r : ReaderCell) → n ≤ 256 → length lines ≤ 64
     → cells ≡ replicate n (free_cell (length lines)) → readers ≡ replicate n r → tasks ≡ map (λ (line : TaskLine). fresh_task n line.own) lines → IsShared cells readers tasks

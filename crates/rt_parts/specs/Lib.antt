@@ -1,3 +1,4 @@
+pub mod Steps
 pub mod Shared
 pub mod Thread
 pub mod Links

@@ -13,10 +13,11 @@ use Rattle.rt_model.specs.Rows.{row_of}
 use Rattle.rt_model.specs.State.{Shared, no_task, lock_in, task_in}
 use Rattle.rt_model.specs.StateAfter.{update, at_task}
 use Rattle.rt_model.specs.laws.Owners.{owned_by}
-use Rattle.rt_model.specs.steps.Chain.{requeued_where_old, rekeyed, refreshed_where_changed, phase_of_walk}
+use Rattle.rt_model.specs.steps.Chain.{requeued_where_old, rekeyed, phase_of_walk}
+use Rattle.rt_locks.specs.OwnerCell.{OwnerCell}
 use Rattle.rt_walk.specs.declared.next.Next.{Next}
 use Rattle.rt_walk.specs.declared.next.Next.TheVariants.{End, Confirm, To}
-use Rattle.rt_walk.specs.Link.{awaited}
+use Rattle.rt_walk.specs.Link.{owner_linked}
 
 -- the task is queued at the lock, which has a ticket for it and isn't its own
 pub record IsQueuedAt (u : TaskId) (task : TaskPart) (lock : OwnerPart) : Type 0 where
@@ -46,10 +47,13 @@ phase_told next phase = phase
 abbrev pub task_among : List TaskPart → TaskId → TaskPart
 task_among tasks u = unwrap_or (slice_get tasks u.0) no_task
 
--- the tasks after a link from this one, with the lock before it and after it: the lock's owner keeps the top waiter's key where
--- that changed, and this task's own key is its effective priority
+-- the cell of the lock after a link from this task, which is queued anew, where its key is old
+abbrev pub cell_linked : TaskId → TaskPart → OwnerCell → OwnerCell
+cell_linked u task cell = record cell { part = requeued_where_old (Some u) task cell.part }
+
+-- the tasks after it, with the lock before it and after it: the lock's owner, and this task, whose own key is its effective priority
 abbrev pub tasks_linked : TaskId → OwnerPart → OwnerPart → List TaskPart → List TaskPart
-tasks_linked u before after tasks = update (at_task tasks before.owner (refreshed_where_changed (awaited (task_among tasks u)) before.rows after.rows)) u.0 rekeyed
+tasks_linked u before after tasks = update (at_task tasks before.owner (owner_linked (task_among tasks u) before after)) u.0 rekeyed
 
 -- the parts after it: the task is queued anew, where its key is old
 abbrev pub linked : TaskId → LockId → Shared → Shared

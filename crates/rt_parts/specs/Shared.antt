@@ -3,11 +3,16 @@ use Rattle.std.specs.Prelude.{◌≡◌, ℕ, ◌<◌, ◌≤◌, List, length, 
 use Rattle.rt_base.specs.declared.limits.TheConstants.{MAX_LOCKS, MAX_TASKS}
 use Rattle.rt_model.specs.declared.reader_cell.ReaderCell.{ReaderCell}
 use Rattle.rt_model.specs.Parts.{OwnerPart, TaskPart}
+use Rattle.rt_model.specs.State.{free_lock}
 use Rattle.rt_locks.specs.OwnerCell.{OwnerCell}
 
 -- the owner parts of these cells
 abbrev pub parts_of : List OwnerCell → List OwnerPart
 parts_of cells = map (λ (cell : OwnerCell). cell.part) cells
+
+-- a free lock's cell, with room for so many tasks
+abbrev pub free_cell : ℕ → OwnerCell
+free_cell tasks = record { part = free_lock; tasks = tasks }
 
 -- a lock among so many tasks: there is room for a row of each, and its owner is one of them
 pub record IsAmong (tasks : ℕ) (cell : OwnerCell) : Type 0 where

@@ -1,8 +1,8 @@
 // The lists that a core begins with.
-ghost use Rattle.std.specs.Prelude.{◌≡◌, length, map, replicate, IfOk};
-ghost use Rattle.rt_base.specs.Script.{TaskLine};
+ghost use Rattle.std.specs.Prelude.{◌≡◌, replicate, IfOk};
 ghost use Rattle.rt_model.specs.Stage.{IsPlayable};
-ghost use Rattle.rt_model.specs.State.{free_lock, fresh_task, fresh_thread, kinds_in};
+ghost use Rattle.rt_model.specs.State.{start, kinds_in};
+ghost use Rattle.rt_parts.specs.Shared.{free_cell};
 
 use crate::thread::Thread;
 use rt_base::{Kind, LockId, NoMemory, TaskId};
@@ -13,7 +13,7 @@ use std::alloc::Global;
 
 /// So many free locks, with room for so many tasks each.
 pub fn lock_cells(alloc: Global, locks: u32, tasks: u32) -> Result<Vec<LockCell>, NoMemory>
-    ensures { IfOk result (λ cells. cells.items ≡ replicate locks (record { part = free_lock; tasks = tasks })) }
+    ensures { IfOk result (λ cells. cells.items ≡ replicate locks (free_cell tasks)) }
 {
     let mut cells = Vec::with_capacity(alloc, locks as usize)?;
     for _l in 0..locks {
@@ -24,7 +24,7 @@ pub fn lock_cells(alloc: Global, locks: u32, tasks: u32) -> Result<Vec<LockCell>
 
 /// A running task for each task of the script.
 pub fn task_cells(alloc: Global, script: &Script) -> Result<Vec<TaskCell>, NoMemory>
-    ensures { IfOk result (λ cells. cells.items ≡ map (λ (line : TaskLine). fresh_task (length script.now.locks) line.own) script.now.tasks) }
+    ensures { IfOk result (λ cells. cells.items ≡ (start script.now).tasks) }
 {
     let locks = script.locks();
     let mut cells = Vec::with_capacity(alloc, script.tasks() as usize)?;
@@ -37,7 +37,7 @@ pub fn task_cells(alloc: Global, script: &Script) -> Result<Vec<TaskCell>, NoMem
 /// A thread that has made none of its calls for each task of the script.
 pub fn threads(alloc: Global, script: &Script) -> Result<Vec<Thread>, NoMemory>
     requires { IsPlayable script.now }
-    ensures { IfOk result (λ threads. threads.items ≡ map (λ (line : TaskLine). fresh_thread (kinds_in script.now) line.calls line.cpu) script.now.tasks) }
+    ensures { IfOk result (λ threads. threads.items ≡ (start script.now).threads) }
 {
     let kinds = kinds_in(alloc, script)?;
     let mut threads = Vec::with_capacity(alloc, script.tasks() as usize)?;

@@ -1,27 +1,22 @@
-ghost use Rattle.std.specs.Prelude.{◌≡◌, ◌≤◌, ◌<◌, length, slice_set, IfOk, IfSome, IsSome, All, Option, None, Some};
-ghost use Rattle.rt_base.specs.declared.id.TaskId.{TaskId};
-ghost use Rattle.rt_model.specs.declared.phase.Phase.TheVariants.{Walk};
-ghost use Rattle.rt_model.specs.declared.phase.Route.TheVariants.{Full, Short};
-ghost use Rattle.rt_model.specs.Parts.{TaskPart, call_of, hold_of, kind_of};
+ghost use Rattle.std.specs.Prelude.{◌≡◌, ◌≤◌, ◌<◌, length, IfOk, IfSome, All, Option, None, Some};
+ghost use Rattle.rt_model.specs.Parts.{call_of, kind_of};
 ghost use Rattle.rt_model.specs.State.{fresh_thread};
 ghost use Rattle.rt_model.specs.Stage.{IsServed};
 ghost use Rattle.rt_model.specs.Choice.{called_lock};
-ghost use Rattle.rt_model.specs.events.Own.{is_held, spinning_hold, spinning_holds};
+ghost use Rattle.rt_model.specs.events.Own.{is_held, spinning_holds};
 ghost use Rattle.rt_model.specs.steps.Task.{rest_of, sleep_of};
-ghost use Rattle.rt_model.specs.steps.Thread.{phase_after_got, phase_after_busy, pinned_by, unpinned_by, answered_with, holds_after, migration_after, with_hold, with_read, without_read, downgraded};
+ghost use Rattle.rt_model.specs.steps.Thread.{phase_after_got, phase_after_busy};
 ghost use Rattle.rt_model.specs.events.Readers.{phase_after_rin};
 ghost use Rattle.rt_model.specs.Run.{is_at_end};
 ghost use Rattle.rt_model.specs.Order.{in_walk};
-ghost use Rattle.rt_model.specs.steps.Chain.{followed, goes_on, phase_of_walk};
-ghost use Rattle.rt_model.specs.events.Walk.{phase_after_link, phase_after_end};
-ghost use Rattle.rt_walk.specs.Next.{found};
-ghost use Rattle.rt_parts.specs.Links.{HasRoom, walk_to, phase_told};
-ghost use Rattle.rt_parts.specs.Thread.{CanReadMore, CanUnpin, HasRead, HasPin, CanAnswer};
+ghost use Rattle.rt_parts.specs.Steps.{with_phase};
+
+mod answers;
+mod walk;
 
 use rt_base::limits::{MAX_CALLS, MAX_LOCKS, MAX_TASKS};
-use rt_base::{Call, Cpu, Kind, LockId, NoMemory, Path, Reply, TaskId, TaskState};
-use rt_model::{Hold, Phase, Route};
-use rt_walk::{Next, after};
+use rt_base::{Call, Cpu, Kind, LockId, NoMemory, TaskId, TaskState};
+use rt_model::{Hold, Phase};
 use std::alloc::Global;
 use std::marker::Model;
 
@@ -184,7 +179,7 @@ impl Thread {
     }
 }
 
-// What an event asks of its thread, and what it does to it.
+// What an event asks of its thread, and in which phase it leaves it.
 impl Thread {
     /// The state in which its call waits for a lock.
     pub fn rest_for(&self, l: LockId) -> TaskState
@@ -201,7 +196,7 @@ impl Thread {
     /// Its call has the owner part of its lock: a reader gets in next, a writer removes the bias, and any other
     /// call is to be answered.
     pub fn got(&mut self)
-        ensures { self.new ≡ record self.old { phase = phase_after_got (call_of self.old) self.old.phase } }
+        ensures { self.new ≡ with_phase self.old (phase_after_got (call_of self.old) self.old.phase) }
     {
         match self.call() {
             Some(Call::Read(_)) => self.phase = Phase::ReadIn,
@@ -212,7 +207,7 @@ impl Thread {
 
     /// Its call finds the lock taken: a reader that waits goes on to the inner lock.
     pub fn found_busy(&mut self)
-        ensures { self.new ≡ record self.old { phase = phase_after_busy (call_of self.old) self.old.phase } }
+        ensures { self.new ≡ with_phase self.old (phase_after_busy (call_of self.old) self.old.phase) }
     {
         if let Some(Call::Read(_)) = self.call() {
             self.phase = Phase::Inner;
@@ -221,7 +216,7 @@ impl Thread {
 
     /// Its reader is in: one that has the inner lock is to release it.
     pub fn read_in(&mut self)
-        ensures { self.new ≡ record self.old { phase = phase_after_rin self.old.phase } }
+        ensures { self.new ≡ with_phase self.old (phase_after_rin self.old.phase) }
     {
         if let Phase::ReadIn = self.phase {
             self.phase = Phase::Release;
@@ -230,234 +225,10 @@ impl Thread {
 
     /// Its call goes on in this phase.
     pub fn go_to(&mut self, phase: Phase)
-        ensures { self.new ≡ record self.old { phase = phase } }
+        ensures { self.new ≡ with_phase self.old phase }
     {
         self.phase = phase;
     }
-
-    /// Its walk, of this task, leaves a lock, and goes on at the lock's owner, is to be confirmed, or ends.
-    /// `next` is what it finds of the owner: who that is, whether it is blocked, and whether its key is
-    /// right.
-    pub fn follow(&mut self, t: TaskId, l: LockId, next: Option<(TaskId, bool, bool)>)
-        requires lock { l.0 < length self.old.kinds }
-        requires room { HasRoom self.old.phase }
-        ensures { (owner : Option TaskId) (task : TaskPart) → next ≡ found owner task → self.new ≡ record self.old { phase = phase_after_link t (Some l) owner task self.old.phase } }
-    {
-        let Phase::Walk(cursor, route) = &mut self.phase else {
-            return;
-        };
-        let next = follow_route(route, t, *cursor, l, next);
-        self.go_on(next);
-    }
-
-    // Its walk, whose route has the link that it made, goes on so.
-    fn go_on(&mut self, next: Next)
-        ensures { self.new ≡ record self.old { phase = phase_told next self.old.phase } }
-    {
-        match (next, &mut self.phase) {
-            (Next::To { task, .. }, Phase::Walk(cursor, _)) => *cursor = task,
-            (Next::Confirm, Phase::Walk(_, Route::Full(path))) => {
-                self.phase = Phase::Confirm(*path)
-            }
-            _ => self.end_walk(),
-        }
-    }
-
-    /// Its walk ends: a full one leaves it waiting, a short one ends its call.
-    pub fn end_walk(&mut self)
-        ensures { self.new ≡ record self.old { phase = phase_after_end self.old.phase } }
-    {
-        match self.phase {
-            Phase::Walk(_, Route::Full(_)) => self.phase = Phase::Wait,
-            Phase::Walk(_, Route::Short(_)) => self.phase = Phase::Start,
-            _ => {}
-        }
-    }
-
-    /// The call that it is at has this answer, and it goes to the start of the next one.
-    pub fn answer(&mut self, reply: Reply)
-        requires call { IsSome (call_of self.old) }
-        requires can { CanAnswer self.old (call_of self.old) reply }
-        ensures { self.new ≡ answered_with self.old (Some reply) }
-    {
-        let Some(call) = self.call() else { return };
-        self.answered += 1;
-        self.phase = Phase::Start;
-        self.count_answer(&call, reply);
-        self.note_answer(&call, reply);
-    }
-
-    // Holds what an acquire got, and no longer what a release gave back; a writer that downgrades stays as a
-    // reader.
-    fn note_answer(&mut self, call: &Call, reply: Reply)
-        requires served { IsServed MAX_TASKS (length self.old.kinds) call.now }
-        requires reads { CanReadMore self.old }
-        requires read { HasRead self.old (Some call.now) reply }
-        ensures { self.new ≡ record self.old { holds = holds_after self.old (Some call.now) reply } }
-    {
-        match (call, reply) {
-            (
-                Call::Lock(l)
-                | Call::LockInt(l)
-                | Call::TryLock(l)
-                | Call::Spin(l)
-                | Call::TrySpin(l)
-                | Call::Write(l)
-                | Call::TryWrite(l),
-                Reply::Got,
-            ) => self.set_owns(*l, true),
-            (Call::Unlock(l) | Call::Unspin(l) | Call::Unwrite(l), Reply::Done) => {
-                self.set_owns(*l, false)
-            }
-            (Call::Read(l) | Call::TryRead(l), Reply::Got) => self.read_more(*l),
-            (Call::Unread(l), Reply::Done) => self.read_less(*l),
-            (Call::Downgrade(l), Reply::Done) => self.downgrade(*l),
-            _ => {}
-        }
-    }
-
-    // Counts a spinlock or an `rwlock_t` that it got, `migrate_disable` in `rt_spin_lock`, `rt_read_lock` and
-    // `rt_write_lock`, and no longer one that it gave back, `migrate_enable` in their unlocks.
-    fn count_answer(&mut self, call: &Call, reply: Reply)
-        requires served { IsServed MAX_TASKS (length self.old.kinds) call.now }
-        requires room { self.old.migration < self.old.answered }
-        requires pin { HasPin self.old (Some call.now) reply }
-        ensures { self.new ≡ record self.old { migration = migration_after self.old (Some call.now) reply } }
-    {
-        match (call, reply) {
-            (Call::Spin(_) | Call::TrySpin(_), Reply::Got) => self.migration += 1,
-            (Call::Unspin(_), Reply::Done) => self.migration -= 1,
-            (
-                Call::Read(l) | Call::TryRead(l) | Call::Write(l) | Call::TryWrite(l),
-                Reply::Got,
-            ) => self.pin(*l),
-            (Call::Unread(l) | Call::Unwrite(l), Reply::Done) => self.unpin(*l),
-            _ => {}
-        }
-    }
-
-    // A hold of this lock more counts one where it is an `rwlock_t`.
-    fn pin(&mut self, l: LockId)
-        requires lock { l.0 < length self.old.kinds }
-        requires room { self.old.migration < self.old.answered }
-        ensures { self.new ≡ record self.old { migration = pinned_by (kind_of self.old l) self.old.migration } }
-    {
-        if let Kind::RwLock = self.kind_of(l) {
-            self.migration += 1;
-        }
-    }
-
-    // And one less counts one less.
-    fn unpin(&mut self, l: LockId)
-        requires lock { l.0 < length self.old.kinds }
-        requires pin { CanUnpin (kind_of self.old l) self.old.migration }
-        ensures { self.new ≡ record self.old { migration = unpinned_by (kind_of self.old l) self.old.migration } }
-    {
-        if let Kind::RwLock = self.kind_of(l) {
-            self.migration -= 1;
-        }
-    }
-
-    // Owns a lock, or no longer does.
-    fn set_owns(&mut self, l: LockId, owns: bool)
-        requires { l.0 < length self.old.kinds }
-        ensures { self.new ≡ record self.old { holds = with_hold self.old l owns } }
-    {
-        let before = self.holds[l.0 as usize];
-        self.set_hold(l, Hold { owns, ..before });
-    }
-
-    // Reads a lock once more.
-    fn read_more(&mut self, l: LockId)
-        requires lock { l.0 < length self.old.kinds }
-        requires room { (hold_of self.old l).reads < self.old.answered }
-        ensures { self.new ≡ record self.old { holds = with_read self.old l } }
-    {
-        let before = self.holds[l.0 as usize];
-        self.set_hold(
-            l,
-            Hold {
-                reads: before.reads + 1,
-                ..before
-            },
-        );
-    }
-
-    // Reads a lock once less.
-    fn read_less(&mut self, l: LockId)
-        requires lock { l.0 < length self.old.kinds }
-        requires some { 0 < (hold_of self.old l).reads }
-        ensures { self.new ≡ record self.old { holds = without_read self.old l } }
-    {
-        let before = self.holds[l.0 as usize];
-        self.set_hold(
-            l,
-            Hold {
-                reads: before.reads - 1,
-                ..before
-            },
-        );
-    }
-
-    // Reads a lock that it wrote.
-    fn downgrade(&mut self, l: LockId)
-        requires lock { l.0 < length self.old.kinds }
-        requires room { (hold_of self.old l).reads < self.old.answered }
-        ensures { self.new ≡ record self.old { holds = downgraded self.old l } }
-    {
-        let before = self.holds[l.0 as usize];
-        self.set_hold(
-            l,
-            Hold {
-                owns: false,
-                reads: before.reads + 1,
-            },
-        );
-    }
-
-    // Holds this of a lock, which is counted where its kind spins.
-    fn set_hold(&mut self, l: LockId, hold: Hold)
-        requires lock { l.0 < length self.old.kinds }
-        requires reads { hold.reads ≤ self.old.answered }
-        ensures { self.new ≡ record self.old { holds = slice_set self.old.holds l.0 hold } }
-    {
-        let kind = self.kinds[l.0 as usize];
-        let before = self.holds[l.0 as usize];
-        self.spinning -= spinning_hold(kind, &before);
-        self.spinning += spinning_hold(kind, &hold);
-        self.holds[l.0 as usize] = hold;
-    }
-}
-
-// How a walk goes on that leaves this lock, with its route after that.
-fn follow_route(
-    route: &mut Route,
-    t: TaskId,
-    cursor: TaskId,
-    l: LockId,
-    next: Option<(TaskId, bool, bool)>,
-) -> Next
-    requires lock { l.0 < MAX_LOCKS }
-    requires room { HasRoom (Walk cursor route.old) }
-    ensures next { (owner : Option TaskId) (task : TaskPart) → next ≡ found owner task → walk_to route.new result ≡ goes_on t (followed cursor l route.old) owner task }
-    ensures end { phase_of_walk route.new None ≡ phase_of_walk route.old None }
-{
-    let Route::Full(path) = route else {
-        return after(t, false, &Path::empty(), next);
-    };
-    path.push(cursor, l);
-    follow_path(path, t, next)
-}
-
-// How a full walk goes on, whose path is cut before the task at which it does so.
-fn follow_path(path: &mut Path, t: TaskId, next: Option<(TaskId, bool, bool)>) -> Next
-    ensures { (owner : Option TaskId) (task : TaskPart) → next ≡ found owner task → walk_to (Full path.new) result ≡ goes_on t (Full path.old) owner task }
-{
-    let next = after(t, true, path, next);
-    if let Next::To { keep, .. } = next {
-        path.cut(keep);
-    }
-    next
 }
 
 // The state in which a call sleeps in an ordinary way.
@@ -468,12 +239,4 @@ fn sleep_of(call: Option<Call>) -> TaskState
         Some(Call::LockInt(_)) => TaskState::Interruptible,
         _ => TaskState::Uninterruptible,
     }
-}
-
-// One where something is held of a lock of a spinning kind.
-fn spinning_hold(kind: Kind, hold: &Hold) -> u32
-    ensures { result ≡ spinning_hold kind hold.now }
-{
-    let held = hold.owns || hold.reads > 0;
-    if kind.spins() && held { 1 } else { 0 }
 }

@@ -4,3 +4,4 @@ pub use Rattle.rt_model.specs.laws
 pub use Rattle.rt_model.specs.steps
 pub mod KeptTops
 pub mod LockSet
+pub mod Wakeups

@@ -40,7 +40,8 @@ impl LockSet {
 
     /// A lock is in the set from now on, or isn't. There is no room for those from `MAX_LOCKS` on.
     pub fn put(&mut self, l: LockId, member: bool)
-        ensures { (m : ℕ) → m < MAX_LOCKS → has self.new m ≡ (if nat_eq l.0 m then member else has self.old m) }
+        ensures { (m : ℕ) → m < MAX_LOCKS
+            → has self.new m ≡ (if nat_eq l.0 m then member else has self.old m) }
     {
         let w = l.0 as usize / 64;
         if w < WORDS {
@@ -50,7 +51,8 @@ impl LockSet {
 
     /// The set without a lock.
     pub fn without(&self, l: LockId) -> LockSet
-        ensures { (m : ℕ) → m < MAX_LOCKS → has result m ≡ (if nat_eq l.0 m then false else has self.now m) }
+        ensures { (m : ℕ) → m < MAX_LOCKS
+            → has result m ≡ (if nat_eq l.0 m then false else has self.now m) }
     {
         let mut others = LockSet { words: self.words };
         others.put(l, false);

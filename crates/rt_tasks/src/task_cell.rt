@@ -208,7 +208,8 @@ impl TaskCell {
 
     // Whether the effective priority is what it keeps of a lock, and not its own.
     fn is_boosted_by(&self, l: LockId) -> bool
-        ensures { result ≡ false → effective_of (with_top (Some l) None self.now) ≡ effective_of self.now }
+        ensures { result ≡ false
+            → effective_of (with_top (Some l) None self.now) ≡ effective_of self.now }
     {
         self.own != self.effective && self.kept.get(l) == Some(self.effective)
     }

@@ -2,6 +2,7 @@ ghost use Rattle.std.specs.Prelude.{◌≡◌, ◌≢◌, ◌<◌, ◌≤◌, �
 ghost use Rattle.std.specs.List.{insert};
 ghost use Rattle.rt_model.specs.laws.Rows.{IsAhead};
 ghost use Rattle.rt_model.specs.Rows.{top_waiter, row_of, insert_row, without};
+ghost use Rattle.rt_waiters.specs.Queue.{with_row, without_row};
 
 use crate::order::insertion_index;
 use crate::steps::Steps;
@@ -78,7 +79,7 @@ impl Waiters {
         requires below { who < self.old.room }
         requires absent { row_of (record { 0 = who }) self.old.rows ≡ None }
         requires fresh { All (λ (row : Row). row.ticket ≢ ticket) self.old.rows }
-        ensures rows { self.new ≡ record self.old { rows = insert_row (record { key = key; ticket = ticket; who = who }) self.old.rows } }
+        ensures rows { self.new ≡ with_row key ticket who self.old }
         ensures cost { steps.new ≤ steps.old + length self.old.rows }
     {
         put_in_order(&mut self.rows, Row { key, ticket, who }, steps);
@@ -87,7 +88,7 @@ impl Waiters {
     /// Takes a task's row out, where there is one, `rt_mutex_dequeue`.
     pub fn remove<L: Ledger>(&mut self, who: u32, steps: &mut Steps<L>) -> Option<Row>
         ensures row { result ≡ row_of (record { 0 = who }) self.old.rows }
-        ensures rows { self.new ≡ record self.old { rows = without (record { 0 = who }) self.old.rows } }
+        ensures rows { self.new ≡ without_row who self.old }
         ensures cost { steps.new ≤ steps.old + length self.old.rows }
     {
         let row = self.row(who);
@@ -100,7 +101,7 @@ impl Waiters {
     pub fn requeue<L: Ledger>(&mut self, who: u32, key: u64, ticket: u64, steps: &mut Steps<L>)
         requires queued { IsSome (row_of (record { 0 = who }) self.old.rows) }
         requires fresh { All (λ (row : Row). row.ticket ≢ ticket) self.old.rows }
-        ensures rows { self.new ≡ record self.old { rows = insert_row (record { key = key; ticket = ticket; who = who }) (without (record { 0 = who }) self.old.rows) } }
+        ensures rows { self.new ≡ with_row key ticket who (without_row who self.old) }
         ensures cost { steps.new ≤ steps.old + length self.old.rows }
     {
         let row = Row { key, ticket, who };

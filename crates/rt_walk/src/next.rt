@@ -26,7 +26,8 @@ pub fn after(walker: TaskId, full: bool, path: &Path, next: Option<(TaskId, bool
     ensures told { result ≡ next_after walker full path.now next }
     ensures goes_on { (answer : Reply) (owner : Option TaskId) (task : TaskPart) → next ≡ found owner task
         → phase_of (route_of full path.now answer) result ≡ goes_on walker (route_of full path.now answer) owner task }
-    ensures keep { (task : TaskId) (keep : ℕ) → result ≡ Next.To task keep → keep ≤ length path.now }
+    ensures keep { (task : TaskId) (keep : ℕ) → result ≡ Next.To task keep
+        → keep ≤ length path.now }
 {
     match next {
         Some((task, true, right)) if full => along(walker, path, task, right),

@@ -1,10 +1,10 @@
 ghost use Rattle.std.specs.Prelude.{◌≡◌, ◌<◌, ◌≤◌, ◌+◌, ◌^◌, length, option_map, is_some, Some, IsSome};
 ghost use Rattle.rt_model.specs.Parts.{effective_of};
 ghost use Rattle.rt_model.specs.Rows.{top_changed, top_key, top_task, row_of};
-ghost use Rattle.rt_model.specs.steps.Chain.{rekeyed, requeued_where_old, refreshed_where_changed};
+ghost use Rattle.rt_model.specs.steps.Chain.{rekeyed, requeued_where_old};
 ghost use Rattle.rt_model.specs.steps.Task.{with_top};
 ghost use Rattle.rt_walk.specs.Lent.{lent, given_back};
-ghost use Rattle.rt_walk.specs.Link.{awaited};
+ghost use Rattle.rt_walk.specs.Link.{awaited, owner_linked};
 ghost use Rattle.rt_walk.specs.Step.{HasPlace, new_top, changed_to, boosted};
 
 use rt_base::{LockId, Prio, TaskId};
@@ -43,7 +43,8 @@ pub fn walk_step<L: Ledger>(
     // What becomes of the task, the lock and the owner.
     ensures task { u.new ≡ rekeyed u.old }
     ensures lock { lock.new ≡ record lock.old { part = requeued_where_old (Some id) u.old lock.old.part } }
-    ensures owner { given_back owner.exit ≡ option_map (refreshed_where_changed (awaited u.old) lock.old.part.rows lock.new.part.rows) (lent owner.entry) }
+    ensures owner { given_back owner.exit
+        ≡ option_map (owner_linked u.old lock.old.part lock.new.part) (lent owner.entry) }
 
     // What is told of it, and what it costs.
     ensures top_changed { result.top_changed ≡ top_changed lock.old.part.rows lock.new.part.rows }

@@ -10,7 +10,8 @@ ghost use Rattle.rt_model.specs.steps.Readers.{CanStep, with_reader, without_rea
 ghost use Rattle.rt_model.specs.steps.Task.{rest_of, restored, lock_woken};
 ghost use Rattle.rt_model.specs.events.Readers.{phase_after_rin, where_slept, writer_rests};
 
-use rt_base::{Kind, LockId, TaskId};
+use rt_base::{Kind, LockId};
+use rt_events::slept;
 use rt_model::{Event, Phase};
 use rt_parts::{Shared, Thread};
 
@@ -60,16 +61,6 @@ pub fn wtake(shared: &mut Shared, e: &Event, l: LockId, kind: Kind)
 {
     shared.write_in(l);
     shared.restore(slept(e), kind.spins());
-}
-
-// The task of a writer's event, where it has slept: it is named as the owner then.
-fn slept(e: &Event) -> Option<TaskId>
-    ensures { result ≡ where_slept e.now.task e.now.owner }
-{
-    match e.owner {
-        Some(_) => Some(e.task),
-        None => None,
-    }
 }
 
 /// A writer sleeps for readers, or sleeps again.

@@ -326,10 +326,10 @@ module _ (s : State) (made : ℕ) (events : List Event) (lawful : IsLawful s mad
   holders-law = record {
     told = holder-told;
     exclusive = λ prefix rest l is. subst IsExclusive (sym (holder-told prefix rest l is)) (exclusive-in (after s prefix) (made + length prefix) l (lawful-there s made events lawful run prefix rest is));
-    alone = λ prefix rest e l is named gets. owned prefix rest e l is named None (acquires-free e.kind e.task _ _ (found prefix rest e l is named) gets);
-    own = λ prefix rest e l is named gone. owned prefix rest e l is named (Some e.task) (releases-own e.kind e.task _ _ (found prefix rest e l is named) gone);
-    reads = λ prefix rest e l is named its. unwritten-told prefix rest e l is named (can-step prefix rest e l is named kinds.RIn its refl).0;
-    leaves = λ prefix rest e l is named its. subst (λ (h : Held). 0 < h.readers) (sym (told prefix rest e l is named)) (can-step prefix rest e l is named kinds.ROut its refl);
-    writes = λ prefix rest e l is named its. let can = can-step prefix rest e l is named kinds.WTake its refl in alone-told prefix rest e l is named can.2 (found-by prefix rest e l is named kinds.WTake its) can.1;
-    opens = λ prefix rest e l is named its. owned prefix rest e l is named (Some e.task) (found-by prefix rest e l is named kinds.WOpen its);
+    acquired = λ prefix e l m gets. owned prefix m.rest e l m.along m.on None (acquires-free e.kind e.task _ _ (found prefix m.rest e l m.along m.on) gets);
+    released = λ prefix e l m gone. owned prefix m.rest e l m.along m.on (Some e.task) (releases-own e.kind e.task _ _ (found prefix m.rest e l m.along m.on) gone);
+    read_in = λ prefix e l m its. unwritten-told prefix m.rest e l m.along m.on (can-step prefix m.rest e l m.along m.on kinds.RIn its refl).0;
+    read_out = λ prefix e l m its. subst (λ (h : Held). 0 < h.readers) (sym (told prefix m.rest e l m.along m.on)) (can-step prefix m.rest e l m.along m.on kinds.ROut its refl);
+    written = λ prefix e l m its. let can = can-step prefix m.rest e l m.along m.on kinds.WTake its refl in alone-told prefix m.rest e l m.along m.on can.2 (found-by prefix m.rest e l m.along m.on kinds.WTake its) can.1;
+    opened = λ prefix e l m its. owned prefix m.rest e l m.along m.on (Some e.task) (found-by prefix m.rest e l m.along m.on kinds.WOpen its);
   }

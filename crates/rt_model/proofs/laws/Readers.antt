@@ -35,6 +35,7 @@ use Rattle.rt_model.specs.events.Wait.{phase_after_wait}
 use Rattle.rt_model.specs.laws.Lawful.{IsLawful}
 use Rattle.rt_model.specs.laws.Owners.{owned_by, has_inner, has_owner_part, gives_back, OwnersLaw}
 use Rattle.rt_model.specs.laws.Readers.{is_unbiased, is_closing, is_writing, of_owner, going, readers_by, all_readers, ReadersLaw}
+use Rattle.rt_model.proofs.ReaderCounts.{count-most}
 use Rattle.rt_model.proofs.Counts.{sum-update, sum-part}
 use Rattle.rt_model.proofs.Numbers.{number_itself, other_number, at_each_task, at_each_lock, one_owner, owner-is}
 use Rattle.rt_model.proofs.Looks.{Look, look, look_of, plain_look, writing, off, has_part, is_plain, plain-phase, plain-elsewhere, Facts, Turn, Flags, as_were, its_own, Quiet, quiet-turn, plain-quiet, got-quiet, released-quiet, woken-quiet, slept-quiet, read-turn, let_in-turn, out-turn, last-turn, unbias-turn, open-turn, written-turn}
@@ -186,16 +187,23 @@ module _ (s : State) (made : ℕ) (t : TaskId) (e : Event) (lawful : IsLawful s 
     bias = λ m. bias_left m (turn m).flags;
     writer = λ m. writer_left m (turn m).flags;
     alone = λ m. (turn m).alone;
-    count = λ m. omega (arith, (turn m).count, counted m, lawful.readers.count m);
+    count = count_left;
     gone = λ m u. at_each_task (λ v. going (thread_part (state_after s e) v) m ≤ (hold_of (thread_part (state_after s e) v) m).reads) t u (turn m).gone
         (λ ne. subst (λ (thread : ThreadPart). going thread m ≤ (hold_of thread m).reads) (sym (others u ne)) (lawful.readers.gone m u));
-    few = λ m u. at_each_task (λ v. (hold_of (thread_part (state_after s e) v) m).reads ≤ (thread_part (state_after s e) v).answered) t u (turn m).few
-        (λ ne. subst (λ (thread : ThreadPart). (hold_of thread m).reads ≤ thread.answered) (sym (others u ne)) (lawful.readers.few m u));
+    few = few_left;
     within = within;
+    most = λ m. count-most (state_after s e) m (count_left m) (few_left m) within;
   }
     where
       turn : (m : LockId) → Turn (look (thread_part s t) m) (look (thread_part (state_after s e) t) m) (reader_part s m) (reader_part (state_after s e) m)
       turn m = turns m (facts s made lawful t m)
+
+      count_left : (m : LockId) → (reader_part (state_after s e) m).count ≡ all_readers (state_after s e).threads m
+      count_left m = omega (arith, (turn m).count, counted m, lawful.readers.count m)
+
+      few_left : (m : LockId) (u : TaskId) → (hold_of (thread_part (state_after s e) u) m).reads ≤ (thread_part (state_after s e) u).answered
+      few_left m u = at_each_task (λ v. (hold_of (thread_part (state_after s e) v) m).reads ≤ (thread_part (state_after s e) v).answered) t u (turn m).few
+        (λ ne. subst (λ (thread : ThreadPart). (hold_of thread m).reads ≤ thread.answered) (sym (others u ne)) (lawful.readers.few m u))
 
       Turned : LockId → Type 0
       Turned m = Flags (look (thread_part s t) m) (look (thread_part (state_after s e) t) m) (reader_part s m) (reader_part (state_after s e) m)

@@ -36,7 +36,10 @@ acquire_event call t l lock = if is_free lock then fast_event call t l else mark
 abbrev pub fast : Rule
 fast = record {
   touched = λ e. record nothing { lock = e.lock };
-  effect = λ e thread found. record unchanged { lock = λ lock. record lock { owner = Some e.task }; thread = λ left th. record th { phase = phase_after_got (call_of thread) th.phase } };
+  effect = λ e thread found. record unchanged {
+    lock = λ lock. record lock { owner = Some e.task };
+    thread = λ left th. record th { phase = phase_after_got (call_of thread) th.phase };
+  };
 }
 
 -- the bit is set

@@ -49,19 +49,28 @@ phase_after_rin phase = phase
 abbrev pub rin : Rule
 rin = record {
   touched = λ e. record nothing { readers = e.lock };
-  effect = λ e thread found. record unchanged { readers = with_reader; thread = λ left th. record th { phase = phase_after_rin th.phase } };
+  effect = λ e thread found. record unchanged {
+    readers = with_reader;
+    thread = λ left th. record th { phase = phase_after_rin th.phase };
+  };
 }
 
 -- ---- rout, wwake: a reader leaves (`rwbase_read_unlock`), and the last one wakes the writer (`__rwbase_read_unlock`)
 
 abbrev pub rout_event : TaskId → LockId → ReaderCell → Event
-rout_event t l readers = record (bare t kinds.ROut) { lock = Some l; reply = if wakes_writer (without_reader readers) then None else Some Done }
+rout_event t l readers = record (bare t kinds.ROut) {
+  lock = Some l;
+  reply = if wakes_writer (without_reader readers) then None else Some Done;
+}
 
 -- one reader less; where it is the last, and a writer has removed the bias, that one is to be woken
 abbrev pub rout : Rule
 rout = record {
   touched = λ e. record nothing { readers = e.lock };
-  effect = λ e thread found. record unchanged { readers = without_reader; thread = λ left th. record th { phase = if wakes_writer left.readers then phases.WakeWriter else th.phase } };
+  effect = λ e thread found. record unchanged {
+    readers = without_reader;
+    thread = λ left th. record th { phase = if wakes_writer left.readers then phases.WakeWriter else th.phase };
+  };
 }
 
 -- whoever owns the inner lock then is woken
@@ -99,7 +108,10 @@ where_slept t (Some owner) = Some t
 abbrev pub wtake : Rule
 wtake = record {
   touched = λ e. record nothing { readers = e.lock; own = where_slept e.task e.owner };
-  effect = λ e thread found. record unchanged { readers = with_writer; own = λ lock task. restored (spins (kind_named thread e.lock)) task };
+  effect = λ e thread found. record unchanged {
+    readers = with_writer;
+    own = λ lock task. restored (spins (kind_named thread e.lock)) task;
+  };
 }
 
 abbrev pub wsleep_event : TaskId → LockId → Event
@@ -128,7 +140,10 @@ wopen_event t l value = record (bare t kinds.WOpen) { lock = Some l; value = val
 abbrev pub wopen : Rule
 wopen = record {
   touched = λ e. record nothing { readers = e.lock };
-  effect = λ e thread found. record unchanged { readers = without_writer (nat_eq e.value 1); thread = λ left th. record th { phase = phases.Release } };
+  effect = λ e thread found. record unchanged {
+    readers = without_writer (nat_eq e.value 1);
+    thread = λ left th. record th { phase = phases.Release };
+  };
 }
 
 -- ---- a writer on its way, once the bias is removed

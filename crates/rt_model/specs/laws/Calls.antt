@@ -126,19 +126,25 @@ can_have_waking _ _ = false
 -- the call can have an event of this kind with this answer; so far of all calls but those of local locks and `move`
 abbrev pub can_have : Call → EventKind → Option Reply → Bool
 can_have (calls.Lock l) kind reply = can_have_got kind reply || can_have_waiting kind reply || can_have_nested kind reply
-can_have (calls.LockInt l) kind reply = can_have_got kind reply || can_have_waiting kind reply || can_have_nested kind reply || can_have_signalled kind reply
+can_have (calls.LockInt l) kind reply = can_have_got kind reply || can_have_waiting kind reply || can_have_nested kind reply ||
+    can_have_signalled kind reply
 can_have (calls.TryLock l) kind reply = can_have_got kind reply || can_have_trying kind reply
 can_have (calls.Unlock l) kind reply = can_have_release replies.Done kind reply || can_have_refusal kind reply
 can_have (calls.Spin l) kind reply = can_have_got kind reply || can_have_waiting kind reply
 can_have (calls.TrySpin l) kind reply = can_have_got kind reply || can_have_trying kind reply
 can_have (calls.Unspin l) kind reply = can_have_release replies.Done kind reply || can_have_refusal kind reply
-can_have (calls.Read l) kind reply = can_have_reading kind reply || can_have_inner kind reply || can_have_waiting kind reply || can_have_nested kind reply || can_have_release replies.Got kind reply
+can_have (calls.Read l) kind reply = can_have_reading kind reply || can_have_inner kind reply || can_have_waiting kind reply ||
+    can_have_nested kind reply || can_have_release replies.Got kind reply
 can_have (calls.TryRead l) kind reply = can_have_reading_once kind reply || can_have_trying kind reply
 can_have (calls.Unread l) kind reply = can_have_unreading kind reply || can_have_refusal kind reply
-can_have (calls.Write l) kind reply = can_have_inner kind reply || can_have_waiting kind reply || can_have_nested kind reply || can_have_writing kind reply || can_have_sleeping kind reply
-can_have (calls.TryWrite l) kind reply = can_have_inner kind reply || can_have_trying kind reply || can_have_writing kind reply || can_have_opening kind reply || can_have_release replies.Busy kind reply
-can_have (calls.Unwrite l) kind reply = can_have_opening kind reply || can_have_release replies.Done kind reply || can_have_refusal kind reply
-can_have (calls.Downgrade l) kind reply = can_have_opening kind reply || can_have_release replies.Done kind reply || can_have_refusal kind reply
+can_have (calls.Write l) kind reply = can_have_inner kind reply || can_have_waiting kind reply || can_have_nested kind reply ||
+    can_have_writing kind reply || can_have_sleeping kind reply
+can_have (calls.TryWrite l) kind reply = can_have_inner kind reply || can_have_trying kind reply || can_have_writing kind reply ||
+    can_have_opening kind reply || can_have_release replies.Busy kind reply
+can_have (calls.Unwrite l) kind reply = can_have_opening kind reply || can_have_release replies.Done kind reply ||
+    can_have_refusal kind reply
+can_have (calls.Downgrade l) kind reply = can_have_opening kind reply || can_have_release replies.Done kind reply ||
+    can_have_refusal kind reply
 can_have (calls.State state) kinds.State (Some replies.Done) = true
 can_have calls.Schedule kinds.Sched (Some replies.Done) = true
 can_have calls.Schedule kind reply = can_have_nested kind reply

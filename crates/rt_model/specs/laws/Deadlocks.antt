@@ -25,4 +25,5 @@ pub record IsInCycle (s : State) (before : List Event) (e : Event) : Type 0 wher
 
 -- each deadlock answer has one of these causes
 abbrev pub DeadlocksLaw : State → List Event → Type 0
-DeadlocksLaw s events = (before rest : List Event) (e : Event) → before ++ e ∷ rest ≡ events → e.reply ≡ Some Deadlock → IsHeldItself s before e ⊎ IsInCycle s before e
+DeadlocksLaw s events = (before rest : List Event) (e : Event) → before ++ e ∷ rest ≡ events → e.reply ≡ Some Deadlock
+    → IsHeldItself s before e ⊎ IsInCycle s before e

@@ -65,16 +65,29 @@ held_in s l = record {
 abbrev pub IsExclusive : Held → Type 0
 IsExclusive held = IfSome held.writer (λ t. (held.owner ≡ Some t) × (held.readers ≡ 0))
 
--- after each prefix of the events who has a lock by the events has it in the state, and no writer is beside a reader; no event makes
--- its task the owner of a lock that has one, and none but the owner leaves a lock without owner; no reader gets in where a writer
--- is, and none gets out where none is in; who gets in to write owns the inner lock, with no reader and no writer in; and who opens
--- it to readers owns it
+-- an event stands after these and is on this lock
+pub record Meets (events prefix : List Event) (e : Event) (l : LockId) : Type 0 where
+  pub rest : List Event
+  pub along : prefix ++ e ∷ rest ≡ events
+  pub on : e.lock ≡ Some l
+
 pub record HoldersLaw (s : State) (events : List Event) : Type 0 where
-  pub told : (prefix rest : List Event) (l : LockId) → prefix ++ rest ≡ events → holders_of prefix l ≡ held_in (after s prefix) l
+  -- after each prefix of the events who has a lock by the events has it in the state, and no writer is beside a reader
+  pub told : (prefix rest : List Event) (l : LockId) → prefix ++ rest ≡ events
+      → holders_of prefix l ≡ held_in (after s prefix) l
   pub exclusive : (prefix rest : List Event) (l : LockId) → prefix ++ rest ≡ events → IsExclusive (holders_of prefix l)
-  pub alone : (prefix rest : List Event) (e : Event) (l : LockId) → prefix ++ e ∷ rest ≡ events → e.lock ≡ Some l → acquires e.kind ≡ true → (holders_of prefix l).owner ≡ None
-  pub own : (prefix rest : List Event) (e : Event) (l : LockId) → prefix ++ e ∷ rest ≡ events → e.lock ≡ Some l → releases e.kind ≡ true → (holders_of prefix l).owner ≡ Some e.task
-  pub reads : (prefix rest : List Event) (e : Event) (l : LockId) → prefix ++ e ∷ rest ≡ events → e.lock ≡ Some l → e.kind ≡ kinds.RIn → (holders_of prefix l).writer ≡ None
-  pub leaves : (prefix rest : List Event) (e : Event) (l : LockId) → prefix ++ e ∷ rest ≡ events → e.lock ≡ Some l → e.kind ≡ kinds.ROut → 0 < (holders_of prefix l).readers
-  pub writes : (prefix rest : List Event) (e : Event) (l : LockId) → prefix ++ e ∷ rest ≡ events → e.lock ≡ Some l → e.kind ≡ kinds.WTake → holders_of prefix l ≡ record { owner = Some e.task; writer = None; readers = 0 }
-  pub opens : (prefix rest : List Event) (e : Event) (l : LockId) → prefix ++ e ∷ rest ≡ events → e.lock ≡ Some l → e.kind ≡ kinds.WOpen → (holders_of prefix l).owner ≡ Some e.task
+  -- no event makes its task the owner of a lock that has one, and none but the owner leaves a lock without owner
+  pub acquired : (prefix : List Event) (e : Event) (l : LockId) → Meets events prefix e l → acquires e.kind ≡ true
+      → (holders_of prefix l).owner ≡ None
+  pub released : (prefix : List Event) (e : Event) (l : LockId) → Meets events prefix e l → releases e.kind ≡ true
+      → (holders_of prefix l).owner ≡ Some e.task
+  -- no reader gets in where a writer is, and none gets out where none is in
+  pub read_in : (prefix : List Event) (e : Event) (l : LockId) → Meets events prefix e l → e.kind ≡ kinds.RIn
+      → (holders_of prefix l).writer ≡ None
+  pub read_out : (prefix : List Event) (e : Event) (l : LockId) → Meets events prefix e l → e.kind ≡ kinds.ROut
+      → 0 < (holders_of prefix l).readers
+  -- who gets in to write owns the inner lock, with no reader and no writer in, and who opens it to readers owns it
+  pub written : (prefix : List Event) (e : Event) (l : LockId) → Meets events prefix e l → e.kind ≡ kinds.WTake
+      → holders_of prefix l ≡ record { owner = Some e.task; writer = None; readers = 0 }
+  pub opened : (prefix : List Event) (e : Event) (l : LockId) → Meets events prefix e l → e.kind ≡ kinds.WOpen
+      → (holders_of prefix l).owner ≡ Some e.task

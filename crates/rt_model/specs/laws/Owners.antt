@@ -42,4 +42,5 @@ gives_back phase call = false
 -- gives that back
 pub record OwnersLaw (s : State) : Type 0 where
   pub owned : (l : LockId) (t : TaskId) → has_owner_part (thread_part s t) l ≡ owned_by (owner_part s l).owner t
-  pub inside : (l : LockId) (t : TaskId) → is_inside (thread_part s t) l ≡ true → (hold_of (thread_part s t) l).owns ≡ gives_back (thread_part s t).phase (call_of (thread_part s t))
+  pub inside : (l : LockId) (t : TaskId) → is_inside (thread_part s t) l ≡ true
+      → (hold_of (thread_part s t) l).owns ≡ gives_back (thread_part s t).phase (call_of (thread_part s t))

@@ -68,7 +68,8 @@ all_readers threads l = sum (map (λ (thread : ThreadPart). readers_by thread l)
 -- hold of its lock; no thread has more read holds of a lock than answers, nor more answers than calls, so the count is at most the
 -- number of all calls
 pub record ReadersLaw (s : State) : Type 0 where
-  pub bias : (l : LockId) → (reader_part s l).bias ≡ not (of_owner (λ thread. is_closing thread l || is_writing thread l) s (owner_part s l).owner)
+  pub bias : (l : LockId)
+      → (reader_part s l).bias ≡ not (of_owner (λ thread. is_closing thread l || is_writing thread l) s (owner_part s l).owner)
   pub writer : (l : LockId) → (reader_part s l).writer ≡ of_owner (λ thread. is_writing thread l) s (owner_part s l).owner
   pub alone : (l : LockId) → (reader_part s l).writer ≡ true → (reader_part s l).count ≡ 0
   pub count : (l : LockId) → (reader_part s l).count ≡ all_readers s.threads l

@@ -15,4 +15,5 @@ pub record IsWaker (s : State) (l : LockId) (u : TaskId) : Type 0 where
 
 -- a writer that sleeps at a lock with no reader left is to be woken by some thread
 abbrev pub WokenWriterLaw : State → Type 0
-WokenWriterLaw s = (t : TaskId) (l : LockId) → has_slept (thread_part s t).phase ≡ true → present_lock (thread_part s t) ≡ Some l → (task_part s t).state ≢ Running → (reader_part s l).count ≡ 0 → (u : TaskId) × IsWaker s l u
+WokenWriterLaw s = (t : TaskId) (l : LockId) → has_slept (thread_part s t).phase ≡ true → present_lock (thread_part s t) ≡ Some l
+    → (task_part s t).state ≢ Running → (reader_part s l).count ≡ 0 → (u : TaskId) × IsWaker s l u

@@ -1,10 +1,10 @@
 // A link of a chain walk among the shared parts.
 ghost use Rattle.std.specs.Prelude.{◌≡◌, ◌≢◌, ◌<◌, length, All, None, Some, IfSome, IsSome};
 ghost use Rattle.rt_model.specs.State.{lock_in, task_in};
-ghost use Rattle.rt_model.specs.steps.Chain.{requeued_where_old, rekeyed, refreshed_where_changed};
-ghost use Rattle.rt_walk.specs.Link.{awaited};
+ghost use Rattle.rt_model.specs.steps.Chain.{rekeyed};
+ghost use Rattle.rt_walk.specs.Link.{awaited, owner_linked};
 ghost use Rattle.rt_walk.specs.Step.{HasPlace};
-ghost use Rattle.rt_parts.specs.Links.{IsQueuedAt, task_among, tasks_linked, linked};
+ghost use Rattle.rt_parts.specs.Links.{IsQueuedAt, task_among, cell_linked, tasks_linked, linked};
 
 use crate::shared::Shared;
 use rt_base::{LockId, TaskId};
@@ -39,7 +39,7 @@ fn link<L: Ledger>(tasks: &mut [TaskCell], u: TaskId, lock: &mut LockCell, blank
     requires queued { IsQueuedAt u (task_among tasks.old u) lock.old.part }
     requires owner { IfSome lock.old.part.owner (λ o. o.0 < length tasks.old) }
     requires kept { All (λ task. HasPlace (Some task) (awaited (task_among tasks.old u))) tasks.old }
-    ensures lock { lock.new ≡ record lock.old { part = requeued_where_old (Some u) (task_among tasks.old u) lock.old.part } }
+    ensures lock { lock.new ≡ cell_linked u (task_among tasks.old u) lock.old }
     ensures tasks { tasks.new ≡ tasks_linked u lock.old.part lock.new.part tasks.old }
 {
     let mut steps = Steps::<L>::new(blank);
@@ -63,7 +63,7 @@ fn link_to<L: Ledger>(
     requires there { o.0 < length tasks.old }
     requires other { o.0 ≢ u.0 }
     requires kept { HasPlace (Some (task_among tasks.old o)) (awaited (task_among tasks.old u)) }
-    ensures lock { lock.new ≡ record lock.old { part = requeued_where_old (Some u) (task_among tasks.old u) lock.old.part } }
+    ensures lock { lock.new ≡ cell_linked u (task_among tasks.old u) lock.old }
     ensures tasks { tasks.new ≡ tasks_linked u lock.old.part lock.new.part tasks.old }
 {
     let (cursor, owner) = (u.0 as usize, o.0 as usize);
@@ -88,8 +88,8 @@ fn link_cells<L: Ledger>(
     requires owner { IsSome lock.old.part.owner }
     requires kept { HasPlace (Some owner.old) (awaited task.old) }
     ensures task { task.new ≡ rekeyed task.old }
-    ensures lock { lock.new ≡ record lock.old { part = requeued_where_old (Some u) task.old lock.old.part } }
-    ensures owner { owner.new ≡ refreshed_where_changed (awaited task.old) lock.old.part.rows lock.new.part.rows owner.old }
+    ensures lock { lock.new ≡ cell_linked u task.old lock.old }
+    ensures owner { owner.new ≡ owner_linked task.old lock.old.part lock.new.part owner.old }
 {
     let _ = walk_step(task, u, lock, Some(owner), steps);
 }
@@ -104,7 +104,7 @@ fn link_to_none<L: Ledger>(
     requires queued { IsQueuedAt u task.old lock.old.part }
     requires owner { lock.old.part.owner ≡ None }
     ensures task { task.new ≡ rekeyed task.old }
-    ensures lock { lock.new ≡ record lock.old { part = requeued_where_old (Some u) task.old lock.old.part } }
+    ensures lock { lock.new ≡ cell_linked u task.old lock.old }
 {
     let _ = walk_step(task, u, lock, None, steps);
 }

@@ -3,8 +3,8 @@ ghost use Rattle.std.specs.Prelude.{◌≡◌, ◌<◌, ◌^◌, length, true, N
 ghost use Rattle.rt_model.specs.Parts.{effective_of};
 ghost use Rattle.rt_model.specs.Rows.{row_of};
 ghost use Rattle.rt_model.specs.State.{lock_in, task_in};
-ghost use Rattle.rt_model.specs.StateAfter.{update};
 ghost use Rattle.rt_model.specs.steps.Lock.{queued, left_by, taken_by, given_up};
+ghost use Rattle.rt_parts.specs.Steps.{with_lock};
 
 use crate::shared::Shared;
 use rt_base::{LockId, Prio, TaskId};
@@ -18,7 +18,7 @@ impl Shared {
     pub fn set_owner(&mut self, l: LockId, t: TaskId)
         requires lock { l.0 < length self.old.locks }
         requires task { t.0 < length self.old.tasks }
-        ensures { self.new ≡ record self.old { locks = update self.old.locks l.0 (λ lock. record lock { owner = Some t }) } }
+        ensures { self.new ≡ with_lock self.old l (λ lock. record lock { owner = Some t }) }
     {
         self.locks[l.0 as usize].set_owner(t);
     }
@@ -26,7 +26,7 @@ impl Shared {
     /// Leaves a lock without owner.
     pub fn clear_owner(&mut self, l: LockId)
         requires { l.0 < length self.old.locks }
-        ensures { self.new ≡ record self.old { locks = update self.old.locks l.0 (λ lock. record lock { owner = None }) } }
+        ensures { self.new ≡ with_lock self.old l (λ lock. record lock { owner = None }) }
     {
         self.locks[l.0 as usize].clear_owner();
     }
@@ -34,7 +34,7 @@ impl Shared {
     /// Sets the waiters bit of a lock.
     pub fn set_bit(&mut self, l: LockId)
         requires { l.0 < length self.old.locks }
-        ensures { self.new ≡ record self.old { locks = update self.old.locks l.0 (λ lock. record lock { bit = true }) } }
+        ensures { self.new ≡ with_lock self.old l (λ lock. record lock { bit = true }) }
     {
         self.locks[l.0 as usize].set_bit();
     }
@@ -43,7 +43,7 @@ impl Shared {
     pub fn take(&mut self, l: LockId, t: TaskId)
         requires lock { l.0 < length self.old.locks }
         requires task { t.0 < length self.old.tasks }
-        ensures { self.new ≡ record self.old { locks = update self.old.locks l.0 (taken_by t) } }
+        ensures { self.new ≡ with_lock self.old l (taken_by t) }
     {
         take::<Brand>(&mut self.locks[l.0 as usize], t, Blank::new(1));
     }
@@ -54,7 +54,7 @@ impl Shared {
         requires task { t.0 < length self.old.tasks }
         requires absent { row_of t (lock_in self.old l).rows ≡ None }
         requires tickets { (lock_in self.old l).ticket < 2 ^ 63 }
-        ensures { self.new ≡ record self.old { locks = update self.old.locks l.0 (queued t (effective_of (task_in self.old t))) } }
+        ensures { self.new ≡ with_lock self.old l (queued t (effective_of (task_in self.old t))) }
     {
         let key = self.tasks[t.0 as usize].effective();
         enqueue::<Brand>(&mut self.locks[l.0 as usize], t, key, Blank::new(1));
@@ -63,7 +63,7 @@ impl Shared {
     /// Takes a task's row out of the queue of a lock, `rt_mutex_dequeue`.
     pub fn remove(&mut self, l: LockId, t: TaskId)
         requires { l.0 < length self.old.locks }
-        ensures { self.new ≡ record self.old { locks = update self.old.locks l.0 (left_by t) } }
+        ensures { self.new ≡ with_lock self.old l (left_by t) }
     {
         remove::<Brand>(&mut self.locks[l.0 as usize], t, Blank::new(1));
     }
@@ -71,7 +71,7 @@ impl Shared {
     /// Gives a lock up, `mark_wakeup_next_waiter`.
     pub fn give(&mut self, l: LockId)
         requires { l.0 < length self.old.locks }
-        ensures { self.new ≡ record self.old { locks = update self.old.locks l.0 given_up } }
+        ensures { self.new ≡ with_lock self.old l given_up }
     {
         let _ = self.locks[l.0 as usize].give();
     }

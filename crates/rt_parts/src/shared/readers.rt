@@ -3,8 +3,8 @@ ghost use Rattle.std.specs.Prelude.{◌≡◌, ◌<◌, false, true, IsTrue, len
 ghost use Rattle.rt_base.specs.declared.limits.TheConstants.{MAX_CALLS};
 ghost use Rattle.rt_model.specs.declared.event_kind.EventKind.TheVariants.{RIn, ROut, Unbias, WTake};
 ghost use Rattle.rt_model.specs.State.{readers_in};
-ghost use Rattle.rt_model.specs.StateAfter.{update};
 ghost use Rattle.rt_model.specs.steps.Readers.{CanStep, with_reader, without_reader, wakes_writer, unbiased, with_writer, without_writer};
+ghost use Rattle.rt_parts.specs.Steps.{with_readers};
 
 use crate::shared::Shared;
 use rt_base::LockId;
@@ -14,7 +14,7 @@ impl Shared {
     pub fn read_in(&mut self, l: LockId)
         requires lock { l.0 < length self.old.locks }
         requires can { CanStep RIn 0 (readers_in self.old l) }
-        ensures { self.new ≡ record self.old { readers = update self.old.readers l.0 with_reader } }
+        ensures { self.new ≡ with_readers self.old l with_reader }
     {
         self.readers[l.0 as usize] = rt_rwbase::read_in(self.readers[l.0 as usize]);
     }
@@ -23,7 +23,7 @@ impl Shared {
     pub fn read_out(&mut self, l: LockId) -> bool
         requires lock { l.0 < length self.old.locks }
         requires can { CanStep ROut 0 (readers_in self.old l) }
-        ensures parts { self.new ≡ record self.old { readers = update self.old.readers l.0 without_reader } }
+        ensures parts { self.new ≡ with_readers self.old l without_reader }
         ensures last { result ≡ wakes_writer (readers_in self.new l) }
     {
         let (left, last) = rt_rwbase::read_out(self.readers[l.0 as usize]);
@@ -35,7 +35,7 @@ impl Shared {
     pub fn unbias(&mut self, l: LockId)
         requires lock { l.0 < length self.old.locks }
         requires can { CanStep Unbias 0 (readers_in self.old l) }
-        ensures { self.new ≡ record self.old { readers = update self.old.readers l.0 unbiased } }
+        ensures { self.new ≡ with_readers self.old l unbiased }
     {
         self.readers[l.0 as usize] = rt_rwbase::unbias(self.readers[l.0 as usize]);
     }
@@ -44,7 +44,7 @@ impl Shared {
     pub fn write_in(&mut self, l: LockId)
         requires lock { l.0 < length self.old.locks }
         requires can { CanStep WTake 0 (readers_in self.old l) }
-        ensures { self.new ≡ record self.old { readers = update self.old.readers l.0 with_writer } }
+        ensures { self.new ≡ with_readers self.old l with_writer }
     {
         if let Some(written) = rt_rwbase::write_in(self.readers[l.0 as usize]) {
             self.readers[l.0 as usize] = written;
@@ -57,7 +57,7 @@ impl Shared {
         requires bias { (readers_in self.old l).bias ≡ false }
         requires writer { IsTrue reader → (readers_in self.old l).writer ≡ true }
         requires room { IsTrue reader → (readers_in self.old l).count < MAX_CALLS }
-        ensures { self.new ≡ record self.old { readers = update self.old.readers l.0 (without_writer reader) } }
+        ensures { self.new ≡ with_readers self.old l (without_writer reader) }
     {
         self.readers[l.0 as usize] = rt_rwbase::write_out(self.readers[l.0 as usize], reader);
     }

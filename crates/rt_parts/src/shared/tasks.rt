@@ -1,8 +1,8 @@
 // Steps on one task among the shared parts.
 ghost use Rattle.std.specs.Prelude.{◌≡◌, ◌<◌, length, false, None, Some, IfSome};
 ghost use Rattle.rt_model.specs.State.{lock_in};
-ghost use Rattle.rt_model.specs.StateAfter.{update, at_task};
 ghost use Rattle.rt_model.specs.steps.Task.{with_top, with_own, refreshed, blocked_on, put_to_rest, restored, leave_queue, woken_up, signalled, lock_woken};
+ghost use Rattle.rt_parts.specs.Steps.{with_task, with_task_at};
 
 use crate::shared::Shared;
 use rt_base::{LockId, Prio, TaskId, TaskState};
@@ -12,7 +12,7 @@ impl Shared {
     pub fn refresh(&mut self, t: Option<TaskId>, l: LockId)
         requires task { IfSome t (λ t. t.0 < length self.old.tasks) }
         requires lock { l.0 < length self.old.locks }
-        ensures { self.new ≡ record self.old { tasks = at_task self.old.tasks t (refreshed (Some l) (lock_in self.old l).rows) } }
+        ensures { self.new ≡ with_task_at self.old t (refreshed (Some l) (lock_in self.old l).rows) }
     {
         let top = self.locks[l.0 as usize].top_key();
         if let Some(t) = t {
@@ -24,7 +24,7 @@ impl Shared {
     pub fn drop_top(&mut self, t: TaskId, l: LockId)
         requires task { t.0 < length self.old.tasks }
         requires lock { l.0 < length self.old.locks }
-        ensures { self.new ≡ record self.old { tasks = update self.old.tasks t.0 (with_top (Some l) None) } }
+        ensures { self.new ≡ with_task self.old t (with_top (Some l) None) }
     {
         self.tasks[t.0 as usize].drop_top(l);
     }
@@ -32,7 +32,7 @@ impl Shared {
     /// A task has another priority of its own.
     pub fn set_own(&mut self, t: TaskId, prio: Prio)
         requires { t.0 < length self.old.tasks }
-        ensures { self.new ≡ record self.old { tasks = update self.old.tasks t.0 (with_own prio) } }
+        ensures { self.new ≡ with_task self.old t (with_own prio) }
     {
         self.tasks[t.0 as usize].set_own(prio);
     }
@@ -40,7 +40,7 @@ impl Shared {
     /// A task waits for a lock in this state.
     pub fn block(&mut self, t: TaskId, l: LockId, rest: TaskState)
         requires { t.0 < length self.old.tasks }
-        ensures { self.new ≡ record self.old { tasks = update self.old.tasks t.0 (blocked_on (Some l) rest) } }
+        ensures { self.new ≡ with_task self.old t (blocked_on (Some l) rest) }
     {
         self.tasks[t.0 as usize].block(l, rest);
     }
@@ -48,7 +48,7 @@ impl Shared {
     /// A task goes to rest in this state, and isn't queued.
     pub fn put_to_rest(&mut self, t: TaskId, rest: TaskState)
         requires { t.0 < length self.old.tasks }
-        ensures { self.new ≡ record self.old { tasks = update self.old.tasks t.0 (put_to_rest rest) } }
+        ensures { self.new ≡ with_task self.old t (put_to_rest rest) }
     {
         self.tasks[t.0 as usize].put_to_rest(rest);
     }
@@ -56,7 +56,7 @@ impl Shared {
     /// The state of a task is restored after a wait, where one is named.
     pub fn restore(&mut self, t: Option<TaskId>, spins: bool)
         requires { IfSome t (λ t. t.0 < length self.old.tasks) }
-        ensures { self.new ≡ record self.old { tasks = at_task self.old.tasks t (restored spins) } }
+        ensures { self.new ≡ with_task_at self.old t (restored spins) }
     {
         if let Some(t) = t {
             self.tasks[t.0 as usize].restore(spins);
@@ -66,7 +66,7 @@ impl Shared {
     /// A task goes to this state again.
     pub fn rest_again(&mut self, t: TaskId, rest: TaskState)
         requires { t.0 < length self.old.tasks }
-        ensures { self.new ≡ record self.old { tasks = update self.old.tasks t.0 (λ task. record task { state = rest }) } }
+        ensures { self.new ≡ with_task self.old t (λ task. record task { state = rest }) }
     {
         self.tasks[t.0 as usize].rest_again(rest);
     }
@@ -74,7 +74,7 @@ impl Shared {
     /// A task goes into a state that it sets itself.
     pub fn set_state(&mut self, t: TaskId, state: TaskState)
         requires { t.0 < length self.old.tasks }
-        ensures { self.new ≡ record self.old { tasks = update self.old.tasks t.0 (λ task. record task { state = state }) } }
+        ensures { self.new ≡ with_task self.old t (λ task. record task { state = state }) }
     {
         self.tasks[t.0 as usize].set_state(state);
     }
@@ -82,7 +82,7 @@ impl Shared {
     /// A task waits for no lock any more, where it did.
     pub fn leave_queue(&mut self, t: TaskId, spins: bool)
         requires { t.0 < length self.old.tasks }
-        ensures { self.new ≡ record self.old { tasks = update self.old.tasks t.0 (leave_queue spins) } }
+        ensures { self.new ≡ with_task self.old t (leave_queue spins) }
     {
         self.tasks[t.0 as usize].leave_queue(spins);
     }
@@ -90,7 +90,7 @@ impl Shared {
     /// The signal of a task isn't pending any more.
     pub fn clear_signal(&mut self, t: TaskId)
         requires { t.0 < length self.old.tasks }
-        ensures { self.new ≡ record self.old { tasks = update self.old.tasks t.0 (λ task. record task { signal = false }) } }
+        ensures { self.new ≡ with_task self.old t (λ task. record task { signal = false }) }
     {
         self.tasks[t.0 as usize].clear_signal();
     }
@@ -98,7 +98,7 @@ impl Shared {
     /// A task gets a wakeup.
     pub fn wake(&mut self, t: TaskId)
         requires { t.0 < length self.old.tasks }
-        ensures { self.new ≡ record self.old { tasks = update self.old.tasks t.0 woken_up } }
+        ensures { self.new ≡ with_task self.old t woken_up }
     {
         let _ = self.tasks[t.0 as usize].wake();
     }
@@ -106,7 +106,7 @@ impl Shared {
     /// A task gets a signal.
     pub fn signal(&mut self, t: TaskId)
         requires { t.0 < length self.old.tasks }
-        ensures { self.new ≡ record self.old { tasks = update self.old.tasks t.0 signalled } }
+        ensures { self.new ≡ with_task self.old t signalled }
     {
         let _ = self.tasks[t.0 as usize].signal();
     }
@@ -114,7 +114,7 @@ impl Shared {
     /// A task, where one is named, gets the wakeup of a lock that is given up.
     pub fn lock_wake(&mut self, t: Option<TaskId>, spins: bool)
         requires { IfSome t (λ t. t.0 < length self.old.tasks) }
-        ensures { self.new ≡ record self.old { tasks = at_task self.old.tasks t (lock_woken spins) } }
+        ensures { self.new ≡ with_task_at self.old t (lock_woken spins) }
     {
         if let Some(t) = t {
             self.tasks[t.0 as usize].lock_wake(spins);

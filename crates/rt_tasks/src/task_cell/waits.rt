@@ -1,7 +1,8 @@
 // What waits for locks, wakeups and signals make of a task's states.
-ghost use Rattle.std.specs.Prelude.{◌≡◌, ◌||◌, option_map, false, Some, IsSome, if◌then◌else◌};
-ghost use Rattle.rt_model.specs.Parts.{effective_of};
-ghost use Rattle.rt_model.specs.steps.Task.{blocked_on, put_to_rest, restored, leave_queue, sleeps, woken_up, is_interruptible, signalled, lock_woken, passes};
+ghost use Rattle.std.specs.Prelude.{◌≡◌, false, Some, IsSome, if◌then◌else◌};
+ghost use Rattle.rt_model.specs.steps.Chain.{rekeyed};
+ghost use Rattle.rt_model.specs.steps.Task.{blocked_on, put_to_rest, restored, leave_queue, woken_up, signalled, lock_woken, passes};
+ghost use Rattle.rt_tasks.specs.Wakeups.{heeds_wake, heeds_signal};
 
 use crate::sleep::{is_interruptible, lock_state_woken, runs, sleeps};
 use crate::task_cell::TaskCell;
@@ -24,7 +25,7 @@ impl TaskCell {
     /// Is queued with its effective priority again, `waiter_update_prio`.
     pub fn set_key(&mut self)
         requires { IsSome self.old.blocked }
-        ensures { self.new ≡ record self.old { blocked = option_map (λ at. (at.0, effective_of self.old)) self.old.blocked } }
+        ensures { self.new ≡ rekeyed self.old }
     {
         if let Some((lock, _)) = self.blocked {
             self.blocked = Some((lock, self.effective));
@@ -103,7 +104,7 @@ impl TaskCell {
 
     /// Whether a wakeup would end a sleep of it, or one that is saved, `ttwu_state_match`.
     pub fn heeds_wake(&self) -> bool
-        ensures { result ≡ (sleeps self.now.state || sleeps self.now.saved) }
+        ensures { result ≡ heeds_wake self.now }
     {
         sleeps(self.state) || sleeps(self.saved)
     }
@@ -111,7 +112,7 @@ impl TaskCell {
     /// Ends a sleep, or one that is saved, `try_to_wake_up`.
     pub fn wake(&mut self) -> Woken
         ensures task { self.new ≡ woken_up self.old }
-        ensures woken { result ≡ (if sleeps self.old.state || sleeps self.old.saved then Woken.Woke else Woken.Missed) }
+        ensures woken { result ≡ (if heeds_wake self.old then Woken.Woke else Woken.Missed) }
     {
         if sleeps(self.state) {
             self.state = TaskState::Running;
@@ -126,7 +127,7 @@ impl TaskCell {
 
     /// Whether a signal would end an interruptible sleep of it, or one that is saved, `ttwu_state_match`.
     pub fn heeds_signal(&self) -> bool
-        ensures { result ≡ (is_interruptible self.now.state || is_interruptible self.now.saved) }
+        ensures { result ≡ heeds_signal self.now }
     {
         is_interruptible(self.state) || is_interruptible(self.saved)
     }
@@ -134,7 +135,7 @@ impl TaskCell {
     /// Sends it a signal, which ends an interruptible sleep, or one that is saved, `signal_wake_up`.
     pub fn signal(&mut self) -> Woken
         ensures task { self.new ≡ signalled self.old }
-        ensures woken { result ≡ (if is_interruptible self.old.state || is_interruptible self.old.saved then Woken.Woke else Woken.Missed) }
+        ensures woken { result ≡ (if heeds_signal self.old then Woken.Woke else Woken.Missed) }
     {
         self.signal = true;
         if is_interruptible(self.state) {

@@ -2,7 +2,7 @@ use Rattle.std.proofs.Common.{◌∙◌, ap, ℕ, List, Some}
 use Rattle.rt_base.specs.declared.reply.Reply.TheVariants.{Done}
 use Rattle.rt_model.specs.declared.phase.Phase.TheVariants.{Walk}
 use Rattle.rt_model.specs.declared.phase.Route.TheVariants.{Full}
-use Rattle.rt_parts.proofs.thread.follow_path.Goals as goal
+use Rattle.rt_parts.proofs.thread.walk.follow_path.Goals as goal
 
 pub returns-in-To : goal.returns-in-To
 returns-in-To c = λ owner task is. ap (λ (path : List (ℕ × ℕ)). Some (Walk c.in-To.task (Full path))) c.cut.ensures ∙ c.in-To.ensures.goes_on Done owner task is

@@ -3,7 +3,6 @@ use Rattle.std.proofs.Common.{◌≡◌, ◌∙◌, ℕ, suc, ◌+◌, ◌<◌, 
 use Rattle.std.specs.Prelude.{option_map, slice_set}
 use Rattle.std.proofs.Math.ListN.{length-set}
 use Rattle.rt_base.specs.declared.call.Call.{Call}
-use Rattle.rt_base.specs.declared.call.Call.TheVariants as calls
 use Rattle.rt_base.specs.declared.id.LockId.{LockId}
 use Rattle.rt_base.specs.declared.id.TaskId.{TaskId}
 use Rattle.rt_base.specs.declared.reply.Reply.{Reply}
@@ -15,11 +14,8 @@ use Rattle.rt_model.specs.declared.row.Row.{Row}
 use Rattle.rt_model.specs.Parts.{ThreadPart, call_of}
 use Rattle.rt_model.specs.Rows.{row_of}
 use Rattle.rt_model.specs.State.{State, Shared, shared, lock_at, readers_at, task_at, owner_part, reader_part, thread_part}
-use Rattle.rt_model.specs.Stage.{IsServed}
-use Rattle.rt_model.specs.Choice.{called_lock}
 use Rattle.rt_model.specs.Path.{first_lock, first_owner}
 use Rattle.rt_model.specs.events.Walk.{cycle_event}
-use Rattle.rt_model.specs.events.Own.{own_answer}
 use Rattle.rt_model.specs.NextEvent.{event_of, next_event}
 use Rattle.rt_model.specs.Rules.{touched}
 use Rattle.rt_model.specs.steps.Readers.{CanStep}

@@ -84,7 +84,6 @@ fields script number s made t e of lawful names (by_wakeup (is_signal u how)) = 
 fields script number s made t e of lawful names (by_setprio u prio how) = fields_of script number e _ how.event names (λ n. record { lock = refl; other = n.other; woken = refl; value = how.at.served.1; path = refl })
 fields script number s made t e of lawful names (by_release l (is_free how)) = fields_of script number e _ how.event names (λ n. record { lock = n.lock; other = refl; woken = refl; value = refl; path = refl })
 fields script number s made t e of lawful names (by_release l (is_give how)) = fields_of script number e _ how.event names (λ n. record { lock = n.lock; other = refl; woken = n.woken; value = refl; path = refl })
-
 fields script number s made t e of lawful names (by_reading l how) =
     reading-holds (λ phase x. IsWithin (length script.tasks) (length script.locks) x → HasFields script number x) s t l e how (record {
       read = λ n. record { lock = n.lock; other = refl; woken = refl; value = refl; path = refl };

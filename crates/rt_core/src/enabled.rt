@@ -117,26 +117,9 @@ fn has_first(call: &Call, task: &TaskCell) -> bool
     ensures { result ≡ has_first call.now task.now }
 {
     match call {
-        Call::Lock(_)
-        | Call::LockInt(_)
-        | Call::TryLock(_)
-        | Call::Unlock(_)
-        | Call::Spin(_)
-        | Call::TrySpin(_)
-        | Call::Unspin(_)
-        | Call::Read(_)
-        | Call::TryRead(_)
-        | Call::Unread(_)
-        | Call::Write(_)
-        | Call::TryWrite(_)
-        | Call::Unwrite(_)
-        | Call::Downgrade(_)
-        | Call::State(_)
-        | Call::Wake(_)
-        | Call::Signal(_)
-        | Call::SetPrio(..) => true,
+        Call::Local(_) | Call::Unlocal(_) | Call::Move(_) => false,
         Call::Schedule => task.passes(),
-        _ => false,
+        _ => true,
     }
 }
 

@@ -249,6 +249,44 @@ fn a_spinlock_leaves_the_flat_state(rt: HostRuntime) -> Result<(), Fail> {
     Ok(())
 }
 
+// So does an `rwlock_t` whose writer sleeps for readers; of an `rw_semaphore` that is a sleep of its own in the place
+// of the one that was set before. The late wake of the last reader goes to the writer.
+#[test]
+fn a_writer_leaves_the_flat_state(rt: HostRuntime) -> Result<(), Fail> {
+    let (runs, sleep) = (TaskState::Running, TaskState::Interruptible);
+    let (spin, sem) = (TaskState::LockWait, TaskState::Uninterruptible);
+    for (kind, waits, flat, left) in [("rwlock", spin, sleep, sleep), ("rwsem", sem, sem, runs)] {
+        let text = format!(in rt.alloc();
+            "rtscript 1\ntask a 50 0\ntask b 50 0\ntask d 50 0\nlock x {kind}\n\
+            call a read x\ncall a unread x\ncall b state S\ncall b write x\ngo\n"
+        )?;
+        assert!(rt; text.len() < 200);
+        let script = read_script(rt.alloc(), text.as_bytes())?;
+        assert!(rt; Core::can(&script));
+        let mut core = Core::new(rt.alloc(), &script)?;
+        let read = (EventKind::RIn, None, None, Some(Reply::Got));
+        makes(&rt, &script, &mut core, 0, A, read)?;
+        makes(&rt, &script, &mut core, 1, B, STATE)?;
+        makes(&rt, &script, &mut core, 2, B, silent(EventKind::Fast))?;
+        makes(&rt, &script, &mut core, 3, B, silent(EventKind::Unbias))?;
+        makes(&rt, &script, &mut core, 4, B, silent(EventKind::WSleep))?;
+        b_is_in(&rt, &core, waits, flat);
+        makes(&rt, &script, &mut core, 5, A, silent(EventKind::ROut))?;
+        let wake = (EventKind::WWake, Some(B), None, Some(Reply::Done));
+        makes(&rt, &script, &mut core, 6, A, wake)?;
+        b_is_in(&rt, &core, runs, left);
+        let take = (EventKind::WTake, None, None, Some(Reply::Got));
+        makes(&rt, &script, &mut core, 7, B, take)?;
+        b_is_in(&rt, &core, left, left);
+    }
+    Ok(())
+}
+
+// An event of this kind that tells nothing else.
+fn silent(kind: EventKind) -> Told {
+    (kind, None, None, None)
+}
+
 // Makes the next event of a task that isn't in a walk, where so many are made, and compares it.
 fn makes(
     rt: &impl Abort,
@@ -385,7 +423,7 @@ fn reports(
     Ok(())
 }
 
-// Which scripts the machine plays: mutexes and spinlocks, states that are set, sleeps, wakeups, signals, and priorities.
+// Which scripts the machine plays: all but those with a local lock, or with a `move`.
 #[test]
 fn scripts_that_can_be_played(rt: HostRuntime) -> Result<(), Fail> {
     for (lines, can) in [
@@ -396,8 +434,8 @@ fn scripts_that_can_be_played(rt: HostRuntime) -> Result<(), Fail> {
             true,
         ),
         ("lock s spin\n", true),
-        ("lock x rwlock\n", false),
-        ("lock x rwsem\n", false),
+        ("lock x rwlock\n", true),
+        ("lock x rwsem\n", true),
         ("lock l local\n", false),
         ("lock m mutex\nlock n mutex\n", true),
         (
@@ -414,6 +452,10 @@ fn scripts_that_can_be_played(rt: HostRuntime) -> Result<(), Fail> {
         ),
         (
             "task a 5 0\nlock s spin\ncall a spin s\ncall a tryspin s\ncall a unspin s\n",
+            true,
+        ),
+        (
+            "task a 5 0\nlock x rwlock\ncall a read x\ncall a unread x\ncall a write x\ncall a downgrade x\n",
             true,
         ),
         (

@@ -1,4 +1,4 @@
-use Rattle.std.proofs.Common.{◌≡◌, take, All}
+use Rattle.std.proofs.Common.{take, All}
 use Rattle.rt_base.specs.Script.{LockLine}
 use Rattle.rt_model.specs.Stage.{IsPlayedKind}
 use Rattle.rt_core.proofs.playable.locks_played.Given as goal

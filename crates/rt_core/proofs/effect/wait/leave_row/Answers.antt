@@ -4,7 +4,7 @@ use Rattle.rt_model.specs.State.{lock_in}
 use Rattle.rt_model.specs.steps.Lock.{left_by}
 use Rattle.rt_model.specs.steps.Task.{leave_queue, refreshed}
 use Rattle.rt_core.proofs.Leaving.{SameMany, lock-many, task-many, named-many, both-many, lock-stays, named-stays, refresh-left, refreshed_after}
-use Rattle.rt_core.proofs.effect.wait.leave_row.Goals.{After-leave_queue, After-refresh}
+use Rattle.rt_core.proofs.effect.wait.leave_row.Goals.{After-leave_queue}
 use Rattle.rt_core.proofs.effect.wait.leave_row.Goals as goal
 
 same : (c : After-leave_queue) → SameMany c.args.shared.now c.leave_queue.new.self

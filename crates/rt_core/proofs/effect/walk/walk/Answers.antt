@@ -1,7 +1,7 @@
 use Rattle.rt_core.proofs.Leaving.{SameMany, named-many, both-many, named-stays}
 use Rattle.rt_core.proofs.LinkedParts.{linked-parts}
 use Rattle.rt_model.specs.steps.Task.{lock_woken}
-use Rattle.rt_core.proofs.effect.walk.walk.Goals.{After-link, After-lock_wake}
+use Rattle.rt_core.proofs.effect.walk.walk.Goals.{After-link}
 use Rattle.rt_core.proofs.effect.walk.walk.Goals as goal
 
 linked : (c : After-link) → SameMany c.args.shared.now c.link.new.self

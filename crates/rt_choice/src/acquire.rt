@@ -57,13 +57,7 @@ pub fn can_take(t: TaskId, kind: Kind, lock: &LockCell, task: &TaskCell) -> bool
 }
 
 /// Takes a lock, `try_to_take_rt_mutex` with success. The event is the same for each kind of lock.
-pub fn take_event(
-    call: &Call,
-    t: TaskId,
-    l: LockId,
-    lock: &LockCell,
-    task: &TaskCell,
-) -> Chosen
+pub fn take_event(call: &Call, t: TaskId, l: LockId, lock: &LockCell, task: &TaskCell) -> Chosen
     ensures { (kind : Kind) → result ≡ take_event (Some call.now) t l kind lock.now.part task.now }
 {
     let after = task.effective_with(l, lock.top_key_without(t));

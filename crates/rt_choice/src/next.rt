@@ -30,7 +30,7 @@ pub fn next_of(shared: &Shared, t: TaskId, thread: &Thread) -> Option<Chosen>
     requires task { t.0 < length shared.now.tasks }
     requires kinds { length thread.now.kinds ≡ length shared.now.locks }
     requires served { IfSome (call_of thread.now)
-      (IsServed (length shared.now.tasks) (length shared.now.locks)) }
+        (IsServed (length shared.now.tasks) (length shared.now.locks)) }
     requires cursor { FindsCursor shared.now thread.now.phase }
     requires other { IsConfirming thread.now.phase → ⊥ }
     ensures { result ≡ next_of shared.now t thread.now }
@@ -50,7 +50,7 @@ fn start_event(shared: &Shared, t: TaskId, thread: &Thread, call: &Call) -> Opti
     requires known { IsServed MAX_TASKS (length thread.now.kinds) call.now }
     requires served { IsServed (length shared.now.tasks) (length shared.now.locks) call.now }
     ensures { result ≡ answered_or (first_event shared.now t thread.now call.now) t
-      (called_lock thread.now.cpu call.now) (own_answer thread.now call.now) }
+        (called_lock thread.now.cpu call.now) (own_answer thread.now call.now) }
 {
     match own_answer(thread, call) {
         Some(answer) => Some(own_event(t, thread.called_lock(call), answer)),
@@ -115,9 +115,7 @@ fn later_event(
         (Phase::ReadIn, Some(l)) => Some(rin_event(t, l, None)),
         (Phase::Unbias, Some(l)) => Some(unbias_event(t, l)),
         (Phase::WTry, Some(l)) => Some(writer_event(call, t, l, shared.readers(l))),
-        (Phase::WWait, Some(l)) => {
-            waiting_writer_event(t, l, shared.readers(l), shared.task(t))
-        }
+        (Phase::WWait, Some(l)) => { waiting_writer_event(t, l, shared.readers(l), shared.task(t)) }
         (Phase::Release, Some(l)) => {
             Some(release_event(call, t, l, shared.lock(l), shared.task(t)))
         }

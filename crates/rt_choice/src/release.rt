@@ -11,13 +11,7 @@ use rt_tasks::TaskCell;
 
 /// The event of a call that releases an owner part: the fast release, or `rt_mutex_slowunlock` where the bit
 /// is set.
-pub fn release_event(
-    call: &Call,
-    t: TaskId,
-    l: LockId,
-    lock: &LockCell,
-    task: &TaskCell,
-) -> Chosen
+pub fn release_event(call: &Call, t: TaskId, l: LockId, lock: &LockCell, task: &TaskCell) -> Chosen
     ensures { result ≡ release_event (Some call.now) t l lock.now.part task.now }
 {
     if lock.bit() {

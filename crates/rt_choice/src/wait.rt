@@ -21,7 +21,7 @@ pub fn slow_event(shared: &Shared, t: TaskId, l: LockId, kind: Kind, call: &Call
     requires task { t.0 < length shared.now.tasks }
     requires lock { l.0 < length shared.now.locks }
     ensures { result ≡ slow_event (Some call.now) t l kind (lock_in shared.now l) (task_in shared.now t)
-      (task_at shared.now (lock_in shared.now l).owner) }
+        (task_at shared.now (lock_in shared.now l).owner) }
 {
     let (lock, task) = (shared.lock(l), shared.task(t));
     if can_take(t, kind, lock, task) {
@@ -36,7 +36,7 @@ fn wait_event(shared: &Shared, t: TaskId, l: LockId) -> Chosen
     requires task { t.0 < length shared.now.tasks }
     requires lock { l.0 < length shared.now.locks }
     ensures { result ≡ wait_event t l (lock_in shared.now l) (task_in shared.now t)
-      (task_at shared.now (lock_in shared.now l).owner) }
+        (task_at shared.now (lock_in shared.now l).owner) }
 {
     let lock = shared.lock(l);
     let top = lock.top_key_with(t, shared.task(t).effective());
@@ -57,7 +57,7 @@ fn owner_boost(
 ) -> Option<(TaskId, Prio)>
     requires { IfSome owner (λ t. t.0 < length shared.now.tasks) }
     ensures { (lock : OwnerPart) → Some top ≡ top_key lock.rows →
-      result ≡ owner_boost l lock owner (task_at shared.now owner) }
+        result ≡ owner_boost l lock owner (task_at shared.now owner) }
 {
     let t = owner?;
     let task = shared.task(t);
@@ -78,7 +78,7 @@ pub fn left_event(
     requires lock { l.0 < length shared.now.locks }
     requires owner { IfSome owner (λ o. o.0 < length shared.now.tasks) }
     ensures { result ≡ left_event t kind (Some l) owner answer (lock_in shared.now l)
-      (task_at shared.now owner) }
+        (task_at shared.now owner) }
 {
     let Some(o) = owner else {
         return Chosen {
@@ -103,7 +103,7 @@ pub fn left_event(
 fn leave_event(shared: &Shared, t: TaskId, l: LockId) -> Chosen
     requires { l.0 < length shared.now.locks }
     ensures { result ≡ leave_event t l (lock_in shared.now l)
-      (task_at shared.now (lock_in shared.now l).owner) }
+        (task_at shared.now (lock_in shared.now l).owner) }
 {
     let owner = shared.lock(l).owner();
     Chosen {
@@ -138,7 +138,7 @@ pub fn queued_event(
     requires task { t.0 < length shared.now.tasks }
     requires lock { l.0 < length shared.now.locks }
     ensures { result ≡ queued_event (Some call.now) t l kind (lock_in shared.now l) (task_in shared.now t)
-      (task_at shared.now (lock_in shared.now l).owner) }
+        (task_at shared.now (lock_in shared.now l).owner) }
 {
     if is_awake(call, shared.task(t)) {
         Some(awake_event(shared, t, l, kind, call))
@@ -152,7 +152,7 @@ fn awake_event(shared: &Shared, t: TaskId, l: LockId, kind: Kind, call: &Call) -
     requires task { t.0 < length shared.now.tasks }
     requires lock { l.0 < length shared.now.locks }
     ensures { result ≡ awake_event (Some call.now) t l kind (lock_in shared.now l) (task_in shared.now t)
-      (task_at shared.now (lock_in shared.now l).owner) }
+        (task_at shared.now (lock_in shared.now l).owner) }
 {
     let (lock, task) = (shared.lock(l), shared.task(t));
     if can_take(t, kind, lock, task) {
@@ -167,7 +167,7 @@ fn refused_event(shared: &Shared, t: TaskId, l: LockId, call: &Call) -> Chosen
     requires task { t.0 < length shared.now.tasks }
     requires lock { l.0 < length shared.now.locks }
     ensures { result ≡ refused_event (Some call.now) t l (lock_in shared.now l) (task_in shared.now t)
-      (task_at shared.now (lock_in shared.now l).owner) }
+        (task_at shared.now (lock_in shared.now l).owner) }
 {
     if is_interrupted(call, shared.task(t)) {
         leave_event(shared, t, l)

@@ -13,6 +13,7 @@ mod machine_tests;
 mod note;
 mod playable;
 mod report;
+mod spinning;
 mod task_set;
 
 pub use machine::Core;

@@ -1,10 +1,8 @@
-ghost use Rattle.std.specs.Prelude.{◌≡◌, ◌↔◌, ◌<◌, ◌≤◌, ◌+◌, ◌^◌, ◌++◌, ◌||◌, ℕ, length, false, All, IsTrue, Option, None, Some, option_map, IfOk, IfSome, vec_len, vec_capacity};
+ghost use Rattle.std.specs.Prelude.{◌≡◌, ◌↔◌, ◌<◌, ◌≤◌, ◌+◌, ◌^◌, ◌++◌, ℕ, length, false, All, IsTrue, None, Some, IfOk, IfSome, vec_len, vec_capacity};
 ghost use Rattle.std.specs.List.{count_by};
 ghost use Rattle.rt_base.specs.Script.{Script};
 ghost use Rattle.rt_model.specs.declared.obj.Obj.{Obj};
-ghost use Rattle.rt_model.specs.Parts.{call_of, effective_of, kind_named};
-ghost use Rattle.rt_model.specs.Choice.{present_lock};
-ghost use Rattle.rt_base.specs.declared.id.LockId.{LockId as LockNumber};
+ghost use Rattle.rt_model.specs.Parts.{call_of, effective_of};
 ghost use Rattle.rt_model.specs.Stage.{IsPlayable, IsServed};
 ghost use Rattle.rt_model.specs.State.{State, start, shared, object, owner_part, reader_part, task_part, thread_part};
 ghost use Rattle.rt_model.specs.NextEvent.{next_event};
@@ -14,7 +12,6 @@ ghost use Rattle.rt_model.specs.Run.{is_done, is_stuck, is_enabled, lowest};
 ghost use Rattle.rt_model.specs.Order.{in_walk, is_walking};
 ghost use Rattle.rt_model.specs.laws.Shape.{IsOf, IsWithin, SameSize};
 ghost use Rattle.rt_model.specs.laws.Lawful.{IsLawful};
-ghost use Rattle.rt_model.specs.laws.States.{spins_at, sleeps_spinning, waits_spinning};
 ghost use Rattle.rt_model.specs.laws.Wakeups.{flat_state};
 ghost use Rattle.rt_model.specs.laws.Local.{AgreeOn};
 ghost use Rattle.rt_events.specs.Entry.{entry};
@@ -27,8 +24,9 @@ use crate::enabled::Enabled;
 use crate::note::{Note, blocked_note, readers_note};
 use crate::playable::is_playable;
 use crate::report::{write_lock_line, write_task_line};
+use crate::spinning::waits_spinning;
 use rt_base::limits::{LINE_LIMIT, MAX_CALLS, MAX_TASKS};
-use rt_base::{Call, Kind, LockId, NoMemory, Prio, TaskId, TaskState};
+use rt_base::{Call, LockId, NoMemory, Prio, TaskId, TaskState};
 use rt_choice::{confirmed_event, event_of, next_of};
 use rt_locks::LockCell;
 use rt_model::{Event, Phase, ReaderCell, Row};
@@ -336,44 +334,5 @@ impl Core {
         ensures capacity { vec_capacity out.old ≤ vec_capacity out.new }
     {
         write_lock_line(script, l, self.lock(l), self.shared.readers(l), out);
-    }
-}
-
-// Whether the task of this thread waits for a lock of a spinning kind: queued, or asleep for its readers.
-fn waits_spinning(thread: &Thread, task: &TaskCell) -> bool
-    requires { IfSome task.now.blocked (λ at. at.0.0 < length thread.now.kinds) }
-    ensures { result ≡ waits_spinning thread.now task.now }
-{
-    spins_at(thread, task.blocked()) || sleeps_spinning(thread)
-}
-
-// Whether the lock on which a task is blocked, where it is, is of a spinning kind, as this thread knows it.
-fn spins_at(thread: &Thread, lock: Option<LockId>) -> bool
-    requires { IfSome lock (λ l. l.0 < length thread.now.kinds) }
-    ensures { (blocked : Option (LockId × ℕ)) → lock ≡ option_map (λ at. at.0) blocked → result ≡ spins_at thread.now blocked }
-{
-    match lock {
-        Some(l) => thread.kind_of(l).spins(),
-        None => false,
-    }
-}
-
-// Whether a thread's writer sleeps for the readers of a lock of a spinning kind.
-fn sleeps_spinning(thread: &Thread) -> bool
-    ensures { result ≡ sleeps_spinning thread.now.phase (kind_named thread.now (present_lock thread.now)) }
-{
-    matches!(thread.phase(), Phase::WWait) && present_kind(thread).spins()
-}
-
-// The kind of the lock that a thread's call is about, where it is about one.
-fn present_kind(thread: &Thread) -> Kind
-    ensures { result ≡ kind_named thread.now (present_lock thread.now) }
-{
-    let Some(call) = thread.call() else {
-        return Kind::Mutex;
-    };
-    match thread.called_lock(&call) {
-        Some(l) => thread.kind_of(l),
-        None => Kind::Mutex,
     }
 }

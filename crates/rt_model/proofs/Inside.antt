@@ -10,7 +10,7 @@ use Rattle.rt_model.specs.declared.phase.Phase.TheVariants as phases
 use Rattle.rt_model.specs.Parts.{ThreadPart, hold_of}
 use Rattle.rt_model.specs.State.{State, owner_part, thread_part}
 use Rattle.rt_model.specs.Choice.{called_lock, present_lock, is_on}
-use Rattle.rt_model.specs.laws.Owners.{owned_by, has_inner, is_inside, has_owner_part, gives_back, OwnersLaw}
+use Rattle.rt_model.specs.laws.Owners.{owned_by, has_inner, is_passing, has_owner_part, gives_back, OwnersLaw}
 use Rattle.rt_model.specs.laws.Queued.{asked_in}
 use Rattle.rt_model.specs.laws.Lawful.{IsLawful}
 use Rattle.rt_model.proofs.Calling.{IsIn, asks-present, ends-called, ReturnsBy, Returns, from_hold, from_inside}
@@ -22,11 +22,11 @@ pub present-at : (s : State) (t : TaskId) (phase : Phase) (call : Call) (lock : 
 present-at s t phase call lock at about = ap (λ (c : Option Call). option_and_then (called_lock (thread_part s t).cpu) c) at.calling ∙ about
 
 -- in any other phase a thread is inside no lock
-pub outside : (thread : ThreadPart) (l : LockId) → has_inner thread.phase ≡ false → is_inside thread l ≡ false
+pub outside : (thread : ThreadPart) (l : LockId) → has_inner thread.phase ≡ false → is_passing thread l ≡ false
 outside thread l is = ap (λ (b : Bool). b && is_on (present_lock thread) l) is
 
 -- in such a phase it is inside the one that its call is about
-pub inside-at : (thread : ThreadPart) (l m : LockId) → has_inner thread.phase ≡ true → present_lock thread ≡ Some l → is_inside thread m ≡ nat_eq l.0 m.0
+pub inside-at : (thread : ThreadPart) (l m : LockId) → has_inner thread.phase ≡ true → present_lock thread ≡ Some l → is_passing thread m ≡ nat_eq l.0 m.0
 inside-at thread l m is present = λ i. is i && is_on (present i) m
 
 or_false : (b : Bool) → (b || false) ≡ b
@@ -38,14 +38,14 @@ or_true true = refl
 or_true false = refl
 
 -- it has the owner part of a lock that it isn't inside exactly where it holds that, and not for reading
-pub apart-owns : (thread : ThreadPart) (l : LockId) → is_inside thread l ≡ false → has_owner_part thread l ≡ (hold_of thread l).owns
+pub apart-owns : (thread : ThreadPart) (l : LockId) → is_passing thread l ≡ false → has_owner_part thread l ≡ (hold_of thread l).owns
 apart-owns thread l is = ap (λ (b : Bool). (hold_of thread l).owns || b) is ∙ or_false (hold_of thread l).owns
 
 -- so in any other phase each lock
 pub outside-owns : (thread : ThreadPart) (l : LockId) → has_inner thread.phase ≡ false → has_owner_part thread l ≡ (hold_of thread l).owns
 outside-owns thread l is = apart-owns thread l (outside thread l is)
 
-pub inside-its : (s : State) (t : TaskId) (l : LockId) (phase : Phase) (call : Call) → IsIn s t phase call → has_inner phase ≡ true → called_lock (thread_part s t).cpu call ≡ Some l → is_inside (thread_part s t) l ≡ true
+pub inside-its : (s : State) (t : TaskId) (l : LockId) (phase : Phase) (call : Call) → IsIn s t phase call → has_inner phase ≡ true → called_lock (thread_part s t).cpu call ≡ Some l → is_passing (thread_part s t) l ≡ true
 inside-its s t l phase call at is about = inside-at (thread_part s t) l l (ap has_inner at.phased ∙ is) (present-at s t phase call (Some l) at about) ∙ number_itself l.0
 
 module _ (s : State) (t : TaskId) (l : LockId) (owners : OwnersLaw s) where
@@ -64,7 +64,7 @@ module _ (s : State) (t : TaskId) (l : LockId) (owners : OwnersLaw s) where
 
   -- what nobody owns it doesn't hold, but for reading
   pub unowned-unheld : (owner_part s l).owner ≡ None → (hold_of (thread_part s t) l).owns ≡ false
-  unowned-unheld none = (or_parts (hold_of (thread_part s t) l).owns (is_inside (thread_part s t) l) (owners.owned l t ∙ nobodys (owner_part s l).owner t none)).0
+  unowned-unheld none = (or_parts (hold_of (thread_part s t) l).owns (is_passing (thread_part s t) l) (owners.owned l t ∙ nobodys (owner_part s l).owner t none)).0
 
   -- one that releases a lock owns it
   pub returns-owned : Returns s t l → owned_by (owner_part s l).owner t ≡ true

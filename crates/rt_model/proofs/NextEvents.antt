@@ -12,7 +12,7 @@ use Rattle.rt_model.specs.declared.phase.Route.{Route}
 use Rattle.rt_model.specs.Parts.{call_of, kind_of}
 use Rattle.rt_model.specs.Choice.{called_lock}
 use Rattle.rt_model.specs.State.{State, shared, task_at, owner_part, reader_part, task_part, thread_part}
-use Rattle.rt_model.specs.Stage.{IsServed, IsStaged, waits, reads, waits_to_write, writes, ends_with_release, ends_read, IsPhaseOf}
+use Rattle.rt_model.specs.Stage.{IsServed, IsStaged, waits, waits_to_read, waits_to_write, writes, releases_inner, ends_read, IsPhaseOf}
 use Rattle.rt_model.specs.Path.{first_broken}
 use Rattle.rt_model.specs.events.Acquire.{acquire_event, try_event}
 use Rattle.rt_model.specs.events.Release.{release_event}
@@ -110,7 +110,7 @@ in_confirm : (s : State) (t : TaskId) (call : Call) (e : Event) (path : List (�
 in_confirm s t call e path at fits is = let some = asked s t (phases.Confirm path) call at fits in by_confirm some.0 path (confirmed s t some.0 path e some.1 is)
 
 -- a reader or a writer on its way
-read_by : (call : Call) → reads call ≡ true → (l : LockId) × (call ≡ calls.Read l)
+read_by : (call : Call) → waits_to_read call ≡ true → (l : LockId) × (call ≡ calls.Read l)
 read_by (calls.Read l) is = (l, refl)
 read_by _ is = cc
 
@@ -127,7 +127,7 @@ unread_by : (call : Call) → ends_read call ≡ true → (l : LockId) × (call 
 unread_by (calls.Unread l) is = (l, refl)
 unread_by _ is = cc
 
-ended_by : (call : Call) → ends_with_release call ≡ true → (l : LockId) × EndsInner call l
+ended_by : (call : Call) → releases_inner call ≡ true → (l : LockId) × EndsInner call l
 ended_by (calls.Read l) is = (l, of_read refl)
 ended_by (calls.TryWrite l) is = (l, of_trywrite refl)
 ended_by (calls.Unwrite l) is = (l, of_unwrite refl)
@@ -138,7 +138,7 @@ ended_by _ is = cc
 abbrev Later : State → TaskId → Event → Phase → Call → Type 0
 Later s t e phase call = later_event phase (shared s) t (thread_part s t) (called_lock (thread_part s t).cpu call) ≡ Some e
 
-in_inner : (s : State) (t : TaskId) (call : Call) (e : Event) → IsIn s t phases.Inner call → reads call ≡ true → Later s t e phases.Inner call → IsNext s t e
+in_inner : (s : State) (t : TaskId) (call : Call) (e : Event) → IsIn s t phases.Inner call → waits_to_read call ≡ true → Later s t e phases.Inner call → IsNext s t e
 in_inner s t call e at fits is = of_call (read_by call fits).0 (read_by call fits).1
   where
     of_call : (l : LockId) → call ≡ calls.Read l → IsNext s t e
@@ -148,7 +148,7 @@ in_inner s t call e at fits is = of_call (read_by call fits).0 (read_by call fit
         let event : acquire_event (call_of (thread_part s t)) t l (owner_part s l) ≡ e = cc in
         by_acquire l (acquired s t l e (from_reading (record { call = calls.Read l; waits_for = by_read refl; at = here })) event)
 
-in_read_in : (s : State) (t : TaskId) (call : Call) (e : Event) → IsIn s t phases.ReadIn call → reads call ≡ true → Later s t e phases.ReadIn call → IsNext s t e
+in_read_in : (s : State) (t : TaskId) (call : Call) (e : Event) → IsIn s t phases.ReadIn call → waits_to_read call ≡ true → Later s t e phases.ReadIn call → IsNext s t e
 in_read_in s t call e at fits is = of_call (read_by call fits).0 (read_by call fits).1
   where
     of_call : (l : LockId) → call ≡ calls.Read l → IsNext s t e
@@ -196,7 +196,7 @@ in_wake_writer s t call e at fits is = of_call (unread_by call fits).0 (unread_b
         let event : wwake_event t l (owner_part s l) ≡ e = cc in
         by_reading l (is_wwake (record { at = here; lock = here.served; event = sym event }))
 
-in_release : (s : State) (t : TaskId) (call : Call) (e : Event) → IsIn s t phases.Release call → ends_with_release call ≡ true → Later s t e phases.Release call → IsNext s t e
+in_release : (s : State) (t : TaskId) (call : Call) (e : Event) → IsIn s t phases.Release call → releases_inner call ≡ true → Later s t e phases.Release call → IsNext s t e
 in_release s t call e at fits is =
     let l = (ended_by call fits).0 in
     let how = (ended_by call fits).1 in

@@ -30,7 +30,7 @@ use Rattle.rt_model.specs.Path.{Link, links_to, Edge, IsCycle}
 use Rattle.rt_model.specs.laws.Shape.{calls_of, IsShaped, IsOf}
 use Rattle.rt_model.specs.laws.Rows.{IsQueue, RowsLaw, key_at}
 use Rattle.rt_model.specs.laws.KeptTops.{kept_of}
-use Rattle.rt_model.specs.laws.Owners.{owned_by, has_inner, is_inside, OwnersLaw}
+use Rattle.rt_model.specs.laws.Owners.{owned_by, has_inner, is_passing, OwnersLaw}
 use Rattle.rt_model.specs.laws.Readers.{is_closing, is_writing, of_owner, going, readers_by, all_readers, ReadersLaw}
 use Rattle.rt_model.specs.laws.Migration.{pins, pinned, MigrationLaw}
 use Rattle.rt_model.specs.laws.States.{spins_at, has_slept, sleeps_spinning, waits_spinning, IsRested, StatesLaw}
@@ -209,7 +209,7 @@ module _ (script : Script) where
       each_thread (λ thread. (hold_of thread l).owns ≡ false) t
       (λ kinds cs cpu. ap (λ (hold : Hold). hold.owns) (read-replicate (length kinds) l.0 (record { owns = false; reads = 0 })))
 
-  outside-start : (l : LockId) (t : TaskId) → is_inside (thread_part (start script) t) l ≡ false
+  outside-start : (l : LockId) (t : TaskId) → is_passing (thread_part (start script) t) l ≡ false
   outside-start l t = outside (thread_part (start script) t) l (ap has_inner (phase-start t))
 
   OwnersLaw-start : OwnersLaw (start script)

@@ -94,10 +94,10 @@ waits (Read l) = true
 waits (Write l) = true
 waits _ = false
 
--- a call that reads and waits, one that waits to write, and one that writes, which may also only try
-abbrev pub reads : Call → Bool
-reads (Read l) = true
-reads _ = false
+-- a call that waits to read, one that waits to write, and one that writes, which may also only try
+abbrev pub waits_to_read : Call → Bool
+waits_to_read (Read l) = true
+waits_to_read _ = false
 
 abbrev pub waits_to_write : Call → Bool
 waits_to_write (Write l) = true
@@ -109,12 +109,12 @@ writes (TryWrite l) = true
 writes _ = false
 
 -- a call that ends with the release of an inner lock, and one that ends a read
-abbrev pub ends_with_release : Call → Bool
-ends_with_release (Read l) = true
-ends_with_release (TryWrite l) = true
-ends_with_release (Unwrite l) = true
-ends_with_release (Downgrade l) = true
-ends_with_release _ = false
+abbrev pub releases_inner : Call → Bool
+releases_inner (Read l) = true
+releases_inner (TryWrite l) = true
+releases_inner (Unwrite l) = true
+releases_inner (Downgrade l) = true
+releases_inner _ = false
 
 abbrev pub ends_read : Call → Bool
 ends_read (Unread l) = true
@@ -134,16 +134,16 @@ IsToCome _ answer = ⊥
 -- writer does in one of its own
 abbrev pub IsPhaseOf : Phase → Option Call → Type 0
 IsPhaseOf phases.Start call = Unit {0}
-IsPhaseOf phases.Inner (Some call) = reads call ≡ true
+IsPhaseOf phases.Inner (Some call) = waits_to_read call ≡ true
 IsPhaseOf phases.Slow (Some call) = waits call ≡ true
 IsPhaseOf phases.Wait (Some call) = waits call ≡ true
 IsPhaseOf (phases.Walk cursor (Full path)) (Some call) = waits call ≡ true
 IsPhaseOf (phases.Walk cursor (Short answer)) (Some call) = IsToCome call answer
 IsPhaseOf (phases.Confirm path) (Some call) = waits call ≡ true
-IsPhaseOf phases.ReadIn (Some call) = reads call ≡ true
+IsPhaseOf phases.ReadIn (Some call) = waits_to_read call ≡ true
 IsPhaseOf phases.Unbias (Some call) = writes call ≡ true
 IsPhaseOf phases.WTry (Some call) = writes call ≡ true
 IsPhaseOf phases.WWait (Some call) = waits_to_write call ≡ true
-IsPhaseOf phases.Release (Some call) = ends_with_release call ≡ true
+IsPhaseOf phases.Release (Some call) = releases_inner call ≡ true
 IsPhaseOf phases.WakeWriter (Some call) = ends_read call ≡ true
 IsPhaseOf _ call = ⊥

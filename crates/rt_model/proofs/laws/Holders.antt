@@ -25,7 +25,7 @@ use Rattle.rt_model.specs.steps.Readers.{CanStep, can_read, can_write, with_read
 use Rattle.rt_model.specs.steps.Lock.{taken_by, given_up}
 use Rattle.rt_model.specs.Path.{first_lock}
 use Rattle.rt_model.specs.laws.Lawful.{IsLawful}
-use Rattle.rt_model.specs.laws.Owners.{is_inside}
+use Rattle.rt_model.specs.laws.Owners.{is_passing}
 use Rattle.rt_model.specs.laws.Shape.{IsWithin}
 use Rattle.rt_model.specs.laws.Readers.{is_writing, of_owner}
 use Rattle.rt_model.specs.laws.Holders.{Held, nobody, acquires, releases, held_after, holders_of, held_in, IsExclusive, HoldersLaw}
@@ -166,7 +166,7 @@ changes-unwritten kind t owner writer finds changes = cc
 pub held-owned : (s : State) (made : ℕ) (t : TaskId) (l : LockId) → IsLawful s made → (hold_of (thread_part s t) l).owns ≡ true → (owner_part s l).owner ≡ Some t
 held-owned s made t l lawful held =
     let thread : ThreadPart = thread_part s t in
-    owner-is (owner_part s l).owner t (sym (lawful.owners.owned l t) ∙ or_left (hold_of thread l).owns (is_inside thread l) held)
+    owner-is (owner_part s l).owner t (sym (lawful.owners.owned l t) ∙ or_left (hold_of thread l).owns (is_passing thread l) held)
 
 -- whether the owner writes it is told by its flag
 pub owner-writes : (s : State) (made : ℕ) (t : TaskId) (l : LockId) → IsLawful s made → (owner_part s l).owner ≡ Some t → (reader_part s l).writer ≡ is_writing (thread_part s t) l
@@ -188,7 +188,7 @@ module _ (s : State) (made : ℕ) (t : TaskId) (e : Event) (lawful : IsLawful s 
       by_how (from_hold releases at held) =
           let other : has_readers (kind_of thread l) ≡ false = releases-holds (λ c. IsForKind thread.kinds c → has_readers (kind_of thread l) ≡ false) is.call l releases
           (ap (λ (k : Option Kind). has_readers (unwrap_or k locks.Mutex))) (ap (λ (k : Option Kind). has_readers (unwrap_or k locks.Mutex))) (call-fits s t is.call lawful.stage is.calling) in
-          ap (λ (b : Bool). b && (hold_of thread l).owns && not (is_inside thread l)) other
+          ap (λ (b : Bool). b && (hold_of thread l).owns && not (is_passing thread l)) other
       by_how (from_inside ends at) =
           let inside = inside-its s t l phases.Release is.call at refl (ends-called thread.cpu is.call l ends) in
           ap (λ (b : Bool). has_readers (kind_of thread l) && (hold_of thread l).owns && not b) inside ∙ and_right _ false refl

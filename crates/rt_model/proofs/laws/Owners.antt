@@ -30,7 +30,7 @@ use Rattle.rt_model.specs.StateAfter.{effect_in, thread_after, state_after}
 use Rattle.rt_model.specs.Stage.{IsPhaseOf}
 use Rattle.rt_model.specs.steps.Chain.{followed, goes_on}
 use Rattle.rt_model.specs.steps.Task.{with_own, wake_answer, signal_answer}
-use Rattle.rt_model.specs.laws.Owners.{OwnersLaw, owned_by, has_inner, is_inside, has_owner_part, gives_back}
+use Rattle.rt_model.specs.laws.Owners.{OwnersLaw, owned_by, has_inner, is_passing, has_owner_part, gives_back}
 use Rattle.rt_model.specs.laws.Lawful.{IsLawful}
 use Rattle.rt_model.proofs.Leaves.{IsLeft, by_leave, by_cycle, left_answer, left_kind, left_phase, left_made, left-is, left-asks, left-there, left-fits, left-thread, leave-left, cycle-left}
 use Rattle.rt_model.proofs.Links.{walked_thread, link-thread, end-thread, setprio-thread}
@@ -140,10 +140,10 @@ walk_holds thread t u route onward owner task sort =
 -- it has the owner part of this lock, or hasn't; and where it is on its way, it holds it, not for reading, where it gives it back
 record Stands (thread : ThreadPart) (l : LockId) (owns : Bool) : Type 0 where
   owned : has_owner_part thread l ≡ owns
-  inside : is_inside thread l ≡ true → (hold_of thread l).owns ≡ gives_back thread.phase (call_of thread)
+  inside : is_passing thread l ≡ true → (hold_of thread l).owns ≡ gives_back thread.phase (call_of thread)
 
 -- where it isn't inside that, it has what it holds
-apart : (thread : ThreadPart) (l : LockId) (owns : Bool) → is_inside thread l ≡ false → (hold_of thread l).owns ≡ owns → Stands thread l owns
+apart : (thread : ThreadPart) (l : LockId) (owns : Bool) → is_passing thread l ≡ false → (hold_of thread l).owns ≡ owns → Stands thread l owns
 apart thread l owns out is = record { owned = apart-owns thread l out ∙ is; inside = λ its. let no : false ≡ true = sym out ∙ its in absurd cc }
 
 -- what an event of a call on lock l leaves of its thread: of l it has the owner part, or hasn't, and of every other lock where it held that
@@ -157,7 +157,7 @@ on_way : (thread : ThreadPart) (l : LockId) (phase : Phase) → has_inner phase 
 on_way thread l phase has present owns =
     let left : ThreadPart = record thread { phase = phase } in
     record {
-      here = record { owned = or_right (hold_of thread l).owns (is_inside left l) (inside-at left l l has present ∙ number_itself l.0); inside = λ its. owns };
+      here = record { owned = or_right (hold_of thread l).owns (is_passing left l) (inside-at left l l has present ∙ number_itself l.0); inside = λ its. owns };
       there = λ m ne. apart left m (hold_of thread m).owns (inside-at left l m has present ∙ ne) refl;
     }
 

@@ -14,7 +14,7 @@ use Rattle.rt_model.specs.declared.phase.Route.TheVariants.{Full, Short}
 use Rattle.rt_model.specs.Parts.{TaskPart, ThreadPart, call_of}
 use Rattle.rt_model.specs.State.{State, shared, owner_part, task_part, thread_part}
 use Rattle.rt_model.specs.StateAfter.{thread_after, state_after}
-use Rattle.rt_model.specs.Stage.{waits, writes, ends_with_release, IsPhaseOf}
+use Rattle.rt_model.specs.Stage.{waits, writes, releases_inner, IsPhaseOf}
 use Rattle.rt_model.specs.events.Wait.{phase_after_wait}
 use Rattle.rt_model.specs.steps.Chain.{followed, goes_on}
 use Rattle.rt_model.specs.steps.Task.{with_own}
@@ -68,7 +68,7 @@ reading_phased s t l e law is =
       start = λ at. law t;
       unbiased = λ call how at. subst (IsPhaseOf phases.WTry) (sym at) (writes-holds (λ c. writes c ≡ true) call l how refl refl);
       asleep = λ at. subst (IsPhaseOf phases.WWait) (sym at) refl;
-      releases = λ call ends at. subst (IsPhaseOf phases.Release) (sym at) (ends-holds (λ c. ends_with_release c ≡ true) call l ends refl refl refl refl);
+      releases = λ call ends at. subst (IsPhaseOf phases.Release) (sym at) (ends-holds (λ c. releases_inner c ≡ true) call l ends refl refl refl refl);
     })
 
 -- ---- a walk that goes on, or ends

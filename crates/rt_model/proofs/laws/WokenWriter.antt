@@ -25,7 +25,7 @@ use Rattle.rt_model.specs.steps.Readers.{can_write, opened, with_reader, without
 use Rattle.rt_model.specs.steps.Thread.{answered_with}
 use Rattle.rt_model.specs.events.Readers.{rout_event, wwake_event, wsleep_event}
 use Rattle.rt_model.specs.laws.Lawful.{IsLawful}
-use Rattle.rt_model.specs.laws.Owners.{has_inner, is_inside}
+use Rattle.rt_model.specs.laws.Owners.{has_inner, is_passing}
 use Rattle.rt_model.specs.laws.Queued.{awaited_in}
 use Rattle.rt_model.specs.laws.Readers.{is_closing, is_unbiased, is_writing, of_owner}
 use Rattle.rt_model.specs.laws.States.{has_slept}
@@ -94,7 +94,7 @@ module _ (s : State) (made : ℕ) (l : LockId) (v : TaskId) (lawful : IsLawful s
   -- so it owns the inner lock
   sleeper-owns : (owner_part s l).owner ≡ Some v
   sleeper-owns =
-      let here : is_inside (thread_part s v) l ≡ true = inside-at (thread_part s v) l l in_phase.inner sleeps.lock ∙ number_itself l.0 in
+      let here : is_passing (thread_part s v) l ≡ true = inside-at (thread_part s v) l l in_phase.inner sleeps.lock ∙ number_itself l.0 in
       owner-is (owner_part s l).owner v (sym (lawful.owners.owned l v) ∙ (ap (λ (b : Bool). (hold_of (thread_part s v) l).owns || b) here ∙ or_true (hold_of (thread_part s v) l).owns))
     where
       or_true : (b : Bool) → (b || true) ≡ true

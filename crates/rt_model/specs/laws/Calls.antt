@@ -19,11 +19,11 @@ use Rattle.rt_model.specs.Run.{after, ended_of}
 use Rattle.rt_model.specs.laws.Keys.{StandsAt}
 
 -- the two answers are one, of those that a release gives
-abbrev pub is_reply : Reply → Reply → Bool
-is_reply replies.Got replies.Got = true
-is_reply replies.Busy replies.Busy = true
-is_reply replies.Done replies.Done = true
-is_reply _ _ = false
+abbrev pub same_release_answer : Reply → Reply → Bool
+same_release_answer replies.Got replies.Got = true
+same_release_answer replies.Busy replies.Busy = true
+same_release_answer replies.Done replies.Done = true
+same_release_answer _ _ = false
 
 -- a call that is answered once it has its lock's owner part can have an event of this kind with this answer, to get it
 abbrev pub can_have_got : EventKind → Option Reply → Bool
@@ -72,8 +72,8 @@ can_have_trying _ _ = false
 
 -- one that releases an owner part, with this answer, these
 abbrev pub can_have_release : Reply → EventKind → Option Reply → Bool
-can_have_release answer kinds.Free (Some reply) = is_reply answer reply
-can_have_release answer kinds.Give (Some reply) = is_reply answer reply
+can_have_release answer kinds.Free (Some reply) = same_release_answer answer reply
+can_have_release answer kinds.Give (Some reply) = same_release_answer answer reply
 can_have_release answer _ _ = false
 
 -- and one that is for a hold is refused without it

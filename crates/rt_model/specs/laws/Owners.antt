@@ -15,7 +15,7 @@ abbrev pub owned_by : Option TaskId → TaskId → Bool
 owned_by None t = false
 owned_by (Some owner) t = nat_eq owner.0 t.0
 
--- a reader or a writer in this phase has the inner lock
+-- a reader or a writer in this phase has the inner lock: it passes it on its way in, or out
 abbrev pub has_inner : Phase → Bool
 has_inner phases.Unbias = true
 has_inner phases.WTry = true
@@ -24,13 +24,13 @@ has_inner phases.ReadIn = true
 has_inner phases.Release = true
 has_inner _ = false
 
--- the thread's call on this lock is in such a phase: it is on its way in, or out
-abbrev pub is_inside : ThreadPart → LockId → Bool
-is_inside thread l = has_inner thread.phase && is_on (present_lock thread) l
+-- the thread's call on this lock is in such a phase
+abbrev pub is_passing : ThreadPart → LockId → Bool
+is_passing thread l = has_inner thread.phase && is_on (present_lock thread) l
 
 -- so by its own part a thread has the owner part of this lock: it owns it by a hold, or is on its way
 abbrev pub has_owner_part : ThreadPart → LockId → Bool
-has_owner_part thread l = (hold_of thread l).owns || is_inside thread l
+has_owner_part thread l = (hold_of thread l).owns || is_passing thread l
 
 -- a writer that has left, or downgraded, is to release the inner lock
 abbrev pub gives_back : Phase → Option Call → Bool
@@ -42,5 +42,5 @@ gives_back phase call = false
 -- gives that back
 pub record OwnersLaw (s : State) : Type 0 where
   pub owned : (l : LockId) (t : TaskId) → has_owner_part (thread_part s t) l ≡ owned_by (owner_part s l).owner t
-  pub inside : (l : LockId) (t : TaskId) → is_inside (thread_part s t) l ≡ true
+  pub inside : (l : LockId) (t : TaskId) → is_passing (thread_part s t) l ≡ true
       → (hold_of (thread_part s t) l).owns ≡ gives_back (thread_part s t).phase (call_of (thread_part s t))

@@ -9,7 +9,7 @@ use Rattle.rt_model.specs.declared.phase.Phase.TheVariants as phases
 use Rattle.rt_model.specs.Parts.{ThreadPart, call_of, hold_of, kind_of, has_readers}
 use Rattle.rt_model.specs.Choice.{present_lock, is_on}
 use Rattle.rt_model.specs.State.{State, owner_part, reader_part, thread_part}
-use Rattle.rt_model.specs.laws.Owners.{is_inside}
+use Rattle.rt_model.specs.laws.Owners.{is_passing}
 use Rattle.rt_model.specs.laws.Shape.{calls_of}
 
 -- ---- writers
@@ -26,7 +26,7 @@ is_closing thread l = is_unbiased thread.phase && is_on (present_lock thread) l
 
 -- the thread's writer is in: it holds the reader/writer lock for writing, and isn't on its way out
 abbrev pub is_writing : ThreadPart → LockId → Bool
-is_writing thread l = has_readers (kind_of thread l) && (hold_of thread l).owns && not (is_inside thread l)
+is_writing thread l = has_readers (kind_of thread l) && (hold_of thread l).owns && not (is_passing thread l)
 
 -- something of a lock's owner, where it has one
 abbrev pub of_owner : (ThreadPart → Bool) → State → Option TaskId → Bool

@@ -66,10 +66,8 @@ impl Thread {
         match (call, reply) {
             (Call::Spin(_) | Call::TrySpin(_), Reply::Got) => self.migration += 1,
             (Call::Unspin(_), Reply::Done) => self.migration -= 1,
-            (
-                Call::Read(l) | Call::TryRead(l) | Call::Write(l) | Call::TryWrite(l),
-                Reply::Got,
-            ) => self.pin(*l),
+            (Call::Read(l) | Call::TryRead(l) | Call::Write(l) | Call::TryWrite(l), Reply::Got) =>
+                self.pin(*l),
             (Call::Unread(l) | Call::Unwrite(l), Reply::Done) => self.unpin(*l),
             _ => {}
         }

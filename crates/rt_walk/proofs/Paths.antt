@@ -1,5 +1,5 @@
 -- A task's own link among those of a path.
-use Rattle.std.proofs.Common.{◌≡◌, ℕ, zero, suc, ◌+◌, ◌≤◌, Bool, true, false, nat_eq, List, [], ◌∷◌, length, take, refl, ap, Some, arith, add-one}
+use Rattle.std.proofs.Common.{◌≡◌, ℕ, zero, suc, ◌+◌, ◌≤◌, Bool, true, false, nat_eq, List, [], ◌∷◌, length, take, refl, ap, ◌∙◌, ◌||◌, Some, arith, add-one}
 use Rattle.std.specs.Prelude.{slice_get}
 use Rattle.std.proofs.lemmas.Bool.{or_parts, or_from}
 use Rattle.rt_base.specs.declared.id.TaskId.{TaskId}
@@ -18,6 +18,26 @@ passed t path i link is other none = rw add-one (step path i is none)
     step (first ∷ path) (suc i) is none =
         let before = or_parts (nat_eq first.0 t.0) (is_on_path t (take i path)) none in
         or_from (nat_eq first.0 t.0) (is_on_path t (take (suc i) path)) before.0 (step path i is before.1)
+
+-- it is on the first links and the next one where it is on the first, or the next is its own
+pub looked : (t : TaskId) (path : List (ℕ × ℕ)) (i : ℕ) (link : ℕ × ℕ) → slice_get path i ≡ Some link → is_on_path t (take (i + 1) path) ≡ (is_on_path t (take i path) || nat_eq link.0 t.0)
+looked t path i link is = rw add-one (step path i is)
+  where
+    grouped : (a b c : Bool) → (a || (b || c)) ≡ ((a || b) || c)
+    grouped true b c = refl
+    grouped false b c = refl
+
+    or_none : (a : Bool) → (a || false) ≡ a
+    or_none true = refl
+    or_none false = refl
+
+    step : (path : List (ℕ × ℕ)) (i : ℕ) → slice_get path i ≡ Some link → is_on_path t (take (suc i) path) ≡ (is_on_path t (take i path) || nat_eq link.0 t.0)
+    step [] i is = cc
+    step (first ∷ path) zero is =
+        let same : first ≡ link = cc in
+        or_none (nat_eq first.0 t.0) ∙ ap (λ (l : ℕ × ℕ). nat_eq l.0 t.0) same
+    step (first ∷ path) (suc i) is =
+        ap (λ (b : Bool). nat_eq first.0 t.0 || b) (step path i is) ∙ grouped (nat_eq first.0 t.0) (is_on_path t (take i path)) (nat_eq link.0 t.0)
 
 -- the task is on a path, and so many links stand before its own
 pub record IsPlace (t : TaskId) (path : List (ℕ × ℕ)) (i : ℕ) : Type 0 where

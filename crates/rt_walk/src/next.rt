@@ -59,10 +59,25 @@ fn links_before(path: &Path, task: TaskId) -> usize
     ensures before { result ≡ length (path_before task path.now) }
     ensures on_path { nat_lt result (length path.now) ≡ is_on_path task path.now }
 {
+    if !is_on_path(path, task) {
+        return path.len();
+    }
     for i in 0..path.len() {
         if path.at(i).0 == task {
             return i;
         }
     }
     path.len()
+}
+
+// Whether a task is one of a path. Most aren't, so each link is looked at, which goes faster than to stop at
+// the first that is.
+fn is_on_path(path: &Path, task: TaskId) -> bool
+    ensures { result ≡ is_on_path task path.now }
+{
+    let mut found = false;
+    for i in 0..path.len() {
+        found |= path.at(i).0 == task;
+    }
+    found
 }

@@ -85,8 +85,9 @@ fn follow_path(path: &mut Path, t: TaskId, next: Option<(TaskId, bool, bool)>) -
         → walk_to (Full path.new) result ≡ goes_on t (Full path.old) owner task }
 {
     let next = after(t, true, path, next);
-    if let Next::To { keep, .. } = next {
-        path.cut(keep);
+    match next {
+        Next::To { keep, .. } if keep < path.len() => path.cut(keep),
+        _ => {}
     }
     next
 }

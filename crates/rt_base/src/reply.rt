@@ -5,7 +5,7 @@ pub enum Reply {
     Got,
     /// A call that tries found the lock taken.
     Busy,
-    /// Waiting would never end, as `-EDEADLK`.
+    /// The caller holds the lock itself, or waited in a circle that stood when it was looked at, as `-EDEADLK`.
     Deadlock,
     /// A signal ended the wait, as `-EINTR`.
     Interrupted,

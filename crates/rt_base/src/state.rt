@@ -10,7 +10,7 @@ pub enum TaskState {
     Interruptible,
     /// `TASK_UNINTERRUPTIBLE`, written D: wakeups end it.
     Uninterruptible,
-    /// `TASK_RTLOCK_WAIT`, written L: only the lock's own wakeup ends it.
+    /// `TASK_RTLOCK_WAIT`, written L: only a lock wakeup of a spinning kind ends it.
     LockWait,
 }
 

@@ -53,7 +53,8 @@ pub fn wake_event(t: TaskId, u: TaskId, task: &TaskCell) -> Chosen
     }
 }
 
-/// Sends a task a signal, `signal_wake_up`. The answer says whether it ends a sleep.
+/// Sends a task a signal, `signal_wake_up`. The answer says whether it ends a sleep, or one that
+/// is saved.
 pub fn signal_event(t: TaskId, u: TaskId, task: &TaskCell) -> Chosen
     ensures { result ≡ signal_event t u task.now }
 {

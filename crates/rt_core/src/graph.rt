@@ -17,8 +17,7 @@ use rt_base::{Prio, TaskId};
 impl Core {
     /// A task's graph priority, the one that priority inheritance would give it if every effective priority
     /// were right at once: the best of its own and those of all tasks that wait for it, through however many
-    /// locks, whether a cycle stands or not. The time is linear in the number of tasks, since each joins one
-    /// round.
+    /// locks, whether a cycle stands or not. Each task joins one round.
     pub fn graph_priority(&self, t: TaskId) -> Prio
         requires { t.0 < length self.now.state.threads }
         ensures graph { IsGraphPriority self.now.state t result }

@@ -119,8 +119,8 @@ impl Core {
         self.shared.task(t)
     }
 
-    /// The state of a task as it would be if spinlocks didn't put it to sleep: the saved one while it waits for
-    /// a spinning kind, else its state.
+    /// The state of a task as it would be if spinlocks and rwlocks didn't put it to sleep: the saved one while
+    /// it waits for a spinning kind, in its queue or for its readers, else its state.
     pub fn flat_state(&self, t: TaskId) -> TaskState
         requires { t.0 < length self.now.state.threads }
         ensures { result ≡ flat_state (thread_part self.now.state t) (task_part self.now.state t) }

@@ -26,7 +26,7 @@ pub enum EventKind {
     Leave,
     /// `rt_mutex_slowunlock` with `mark_wakeup_next_waiter`.
     Give,
-    /// A reader gets in, `rwbase_read_trylock`.
+    /// A reader gets in, `rwbase_read_trylock`, and the slow path of `__rwbase_read_lock`.
     RIn,
     /// A reader gets out, `rwbase_read_unlock`.
     ROut,

@@ -15,17 +15,17 @@ pub enum Phase {
     Walk(TaskId, Route),
     /// A full walk came back to its own task, along this path.
     Confirm(Path),
-    /// A writer owns the inner lock.
+    /// A writer owns the inner lock, and is to remove the bias.
     Unbias,
-    /// The bias is removed.
+    /// The bias is removed, and the writer is to try to get in.
     WTry,
-    /// The writer has slept.
+    /// The writer sleeps for readers, or was woken from that.
     WWait,
-    /// A reader owns the inner lock.
+    /// A reader owns the inner lock, and is to get in.
     ReadIn,
     /// The inner lock is to be released.
     Release,
-    /// The last reader is to wake the writer.
+    /// The last reader is to wake whoever owns the inner lock.
     WakeWriter,
 }
 

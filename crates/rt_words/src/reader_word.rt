@@ -9,7 +9,7 @@ use rt_base::limits::MAX_CALLS;
 pub struct ReaderWord {
     /// The stamp of the event that left the word.
     pub stamp: u64,
-    /// No writer is in or on its way, `READER_BIAS`.
+    /// No writer is in, nor has one on its way removed the bias, `READER_BIAS`.
     pub bias: bool,
     /// A writer is in, `WRITER_BIAS`.
     pub writer: bool,

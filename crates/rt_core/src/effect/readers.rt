@@ -26,7 +26,7 @@ pub fn rin(shared: &mut Shared, thread: &mut Thread, l: LockId)
     thread.read_in();
 }
 
-/// A reader is out; the last one is to wake a writer that waits for that.
+/// A reader is out; the last one, where a writer has removed the bias, is to wake the inner lock's owner.
 pub fn rout(shared: &mut Shared, thread: &mut Thread, l: LockId)
     requires lock { l.0 < length shared.old.locks }
     requires can { CanStep kinds.ROut 0 (readers_in shared.old l) }

@@ -116,8 +116,7 @@ abbrev pub can_have_opening : EventKind → Option Reply → Bool
 can_have_opening kinds.WOpen None = true
 can_have_opening _ _ = false
 
--- and one that wakes or signals
-
+-- one that wakes or signals can have these
 abbrev pub can_have_waking : EventKind → Option Reply → Bool
 can_have_waking kinds.Wake (Some replies.Woke) = true
 can_have_waking kinds.Wake (Some replies.Missed) = true

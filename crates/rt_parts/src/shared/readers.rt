@@ -19,7 +19,7 @@ impl Shared {
         self.readers[l.0 as usize] = rt_rwbase::read_in(self.readers[l.0 as usize]);
     }
 
-    /// A reader gets out. Whether it is the last one, and a writer waits for that.
+    /// A reader gets out. Whether it is the last one, and a writer has removed the bias.
     pub fn read_out(&mut self, l: LockId) -> bool
         requires lock { l.0 < length self.old.locks }
         requires can { CanStep ROut 0 (readers_in self.old l) }

@@ -111,7 +111,7 @@ impl Shared {
         let _ = self.tasks[t.0 as usize].signal();
     }
 
-    /// A task, where one is named, gets the wakeup of a lock that is given up.
+    /// A task, where one is named, gets the wakeup of a lock that is given up, or of a last reader.
     pub fn lock_wake(&mut self, t: Option<TaskId>, spins: bool)
         requires { IfSome t (λ t. t.0 < length self.old.tasks) }
         ensures { self.new ≡ with_task_at self.old t (lock_woken spins) }

@@ -156,7 +156,8 @@ impl TaskCell {
         self.signal = false;
     }
 
-    /// The wakeup of a lock that is given up, `rt_mutex_wake_up_q`: for a spinning kind it ends that wait alone.
+    /// The wakeup of a lock that is given up, `rt_mutex_wake_up_q`, or of a last reader: for a spinning kind it
+    /// ends a wait for such a lock alone.
     pub fn lock_wake(&mut self, spins: bool)
         ensures { self.new ≡ lock_woken spins self.old }
     {

@@ -2,7 +2,7 @@ pub mod Walking
 pub use Rattle.rt_model.specs.Parts
 pub use Rattle.rt_model.specs.Rows
 pub use Rattle.rt_model.specs.State
-pub use Rattle.rt_model.specs.Stage
+pub use Rattle.rt_model.specs.CallKinds
 pub use Rattle.rt_model.specs.Path
 pub use Rattle.rt_model.specs.Choice
 pub use Rattle.rt_model.specs.steps

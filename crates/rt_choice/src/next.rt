@@ -2,7 +2,7 @@
 ghost use Rattle.std.specs.Prelude.{◌≡◌, ◌<◌, length, Some, IfSome};
 ghost use Rattle.rt_model.specs.Parts.{call_of, kind_of};
 ghost use Rattle.rt_model.specs.Choice.{called_lock};
-ghost use Rattle.rt_model.specs.Stage.{IsServed};
+ghost use Rattle.rt_model.specs.CallKinds.{IsServed};
 ghost use Rattle.rt_model.specs.events.Own.{own_answer};
 ghost use Rattle.rt_model.specs.NextEvent.{first_event, answered_or, later_event, next_of};
 ghost use Rattle.rt_model.specs.laws.Keys.{IsConfirming};
@@ -50,7 +50,7 @@ fn start_event(shared: &Shared, t: TaskId, thread: &Thread, call: &Call) -> Opti
     requires known { IsServed MAX_TASKS (length thread.now.kinds) call.now }
     requires served { IsServed (length shared.now.tasks) (length shared.now.locks) call.now }
     ensures { result ≡ answered_or (first_event shared.now t thread.now call.now) t
-        (called_lock thread.now.cpu call.now) (own_answer thread.now call.now) }
+        (called_lock call.now) (own_answer thread.now call.now) }
 {
     match own_answer(thread, call) {
         Some(answer) => Some(own_event(t, thread.called_lock(call), answer)),
@@ -58,7 +58,7 @@ fn start_event(shared: &Shared, t: TaskId, thread: &Thread, call: &Call) -> Opti
     }
 }
 
-// The first event of a call that isn't answered by its thread alone.
+// The first event of a call that isn't answered by its thread alone, as every `move` is.
 fn first_event(shared: &Shared, t: TaskId, thread: &Thread, call: &Call) -> Option<Chosen>
     requires task { t.0 < length shared.now.tasks }
     requires kinds { length thread.now.kinds ≡ length shared.now.locks }
@@ -67,14 +67,14 @@ fn first_event(shared: &Shared, t: TaskId, thread: &Thread, call: &Call) -> Opti
     ensures { result ≡ first_event shared.now t thread.now call.now }
 {
     match call {
-        Call::Lock(l) | Call::LockInt(l) | Call::Spin(l) | Call::Write(l) => {
+        Call::Lock(l) | Call::LockInt(l) | Call::Spin(l) | Call::Write(l) | Call::Local(l) => {
             Some(acquire_event(call, t, *l, shared.lock(*l)))
         }
         Call::TryLock(l) | Call::TrySpin(l) | Call::TryWrite(l) => {
             let kind = thread.kind_of(*l);
             Some(try_event(call, t, *l, kind, shared.lock(*l), shared.task(t)))
         }
-        Call::Unlock(l) | Call::Unspin(l) => {
+        Call::Unlock(l) | Call::Unspin(l) | Call::Unlocal(l) => {
             Some(release_event(call, t, *l, shared.lock(*l), shared.task(t)))
         }
         Call::Read(l) => Some(read_event(t, *l, shared.readers(*l))),
@@ -87,7 +87,7 @@ fn first_event(shared: &Shared, t: TaskId, thread: &Thread, call: &Call) -> Opti
         Call::Wake(u) => Some(wake_event(t, *u, shared.task(*u))),
         Call::Signal(u) => Some(signal_event(t, *u, shared.task(*u))),
         Call::SetPrio(u, prio) => Some(setprio_event(t, *u, *prio, shared.task(*u))),
-        _ => None,
+        Call::Move(_) => None,
     }
 }
 
@@ -105,7 +105,7 @@ fn later_event(
     requires known { IsServed MAX_TASKS (length thread.now.kinds) call.now }
     requires cursor { FindsCursor shared.now phase.now }
     requires other { IsConfirming phase.now → ⊥ }
-    ensures { result ≡ later_event phase.now shared.now t thread.now (called_lock thread.now.cpu call.now) }
+    ensures { result ≡ later_event phase.now shared.now t thread.now (called_lock call.now) }
 {
     match (phase, thread.called_lock(call)) {
         (Phase::Inner, Some(l)) => Some(acquire_event(call, t, l, shared.lock(l))),

@@ -1,8 +1,9 @@
 // Own: what a thread answers a call at once, by what it knows itself.
 ghost use Rattle.std.specs.Prelude.{◌≡◌, ◌≤◌, ◌<◌, length, Some, IfSome, option_map};
 ghost use Rattle.rt_model.specs.Parts.{kind_of};
-ghost use Rattle.rt_model.specs.Stage.{IsServed};
-ghost use Rattle.rt_model.specs.events.Own.{own_answer, own_event};
+ghost use Rattle.rt_model.specs.CallKinds.{IsServed};
+ghost use Rattle.rt_model.specs.Choice.{called_lock};
+ghost use Rattle.rt_model.specs.events.Own.{refusal_on, own_answer, own_event};
 
 use crate::chosen::Chosen;
 use crate::event::bare;
@@ -12,10 +13,21 @@ use rt_local::refuses;
 use rt_model::EventKind;
 use rt_parts::Thread;
 
-/// The answer that a thread gives a call at once, where it does.
+/// The answer that a thread gives a call at once, where it does: a refusal, or that a `move` is done.
 pub fn own_answer(thread: &Thread, call: &Call) -> Option<Reply>
     requires { IsServed MAX_TASKS (length thread.now.kinds) call.now }
     ensures { result ≡ own_answer thread.now call.now }
+{
+    match (call, refusal(thread, call)) {
+        (Call::Move(_), None) => Some(Reply::Done),
+        (_, refusal) => refusal,
+    }
+}
+
+// What a thread refuses a call with, where it does.
+fn refusal(thread: &Thread, call: &Call) -> Option<Reply>
+    requires { IsServed MAX_TASKS (length thread.now.kinds) call.now }
+    ensures { result ≡ refusal_on thread.now call.now (called_lock call.now) }
 {
     let lock = thread.called_lock(call);
     let held = thread.is_held(call, lock);

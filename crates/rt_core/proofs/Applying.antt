@@ -34,7 +34,11 @@ use Rattle.rt_model.proofs.Waiters.{slow-unqueued, round-begins, walk-link}
 use Rattle.rt_model.proofs.laws.Rows.{blocked-queued}
 use Rattle.rt_model.proofs.laws.Walks.{walk-room}
 use Rattle.rt_model.proofs.Lists.{All-default, update-index}
+use Rattle.rt_base.specs.Script.{Script, IsScript}
+use Rattle.rt_model.specs.laws.Shape.{IsOf}
+use Rattle.rt_model.specs.laws.Cells.{CellsLaw}
 use Rattle.rt_model.proofs.Lawful.{IsLawful-next}
+use Rattle.rt_model.proofs.laws.Cells.{CellsLaw-next}
 use Rattle.rt_model.specs.CanMove.{IsUninvolved}
 use Rattle.rt_model.specs.laws.Shape.{IsWithin}
 use Rattle.rt_model.proofs.Uninvolved.{uninvolved-enabled, uninvolved-walking}
@@ -44,18 +48,10 @@ use Rattle.rt_core.specs.declared.enabled.Enabled.{Enabled}
 use Rattle.rt_parts.specs.Links.{HasRoom}
 use Rattle.rt_core.specs.Fits.{NamesLock, CanQueue, CanLink, NamesOwner, CanSet, Fits}
 use Rattle.rt_core.proofs.Choosing.{cursor-within}
-use Rattle.rt_core.proofs.Counting.{answer-can}
+use Rattle.rt_core.proofs.Counting.{law-counted, answer-calling, answer-call, answer-can}
 use Rattle.rt_model.proofs.Calm.{wakeup-holds}
 
 -- ---- what an event finds
-
--- its task is at a call
-calling : (s : State) (t : TaskId) (e : Event) → next_event s t ≡ Some e → IsSome (call_of (thread_part s t))
-calling s t e is = by_call (call_of (thread_part s t)) refl is
-  where
-    by_call : (call : Option Call) → call_of (thread_part s t) ≡ call → event_of (shared s) t (thread_part s t) call ≡ Some e → IsSome (call_of (thread_part s t))
-    by_call None at is = cc
-    by_call (Some call) at is = subst IsSome (sym at) refl
 
 unkeyed : (row : Option Row) → option_map (λ (r : Row). r.key) row ≡ None → row ≡ None
 unkeyed None is = refl
@@ -150,13 +146,9 @@ module _ (s : State) (made : ℕ) (t : TaskId) (lawful : IsLawful s made) (few :
         downgraded = λ step. record { named = refl; queue = tt; link = tt; first = tt; set = tt; step = step };
       }) (reader-step s made t e lawful (by_reading l is))
 
-answered : (reply : Option Reply) (call : Option Call) → IsSome call → IfSome reply (λ _. IsSome call)
-answered None call some = tt
-answered (Some reply) call some = some
-
 -- what comes next
 next : (s : State) (made : ℕ) (e : Event) → IsLawful s made → next_event s e.task ≡ Some e → IsNext s e.task e
-next s made e lawful is = choice s e.task e lawful.stage lawful.phases is
+next s made e lawful is = choice s e.task e lawful.calls lawful.phases is
 
 -- which fits the parts of its state
 fits : (s : State) (made : ℕ) (e : Event) → IsLawful s made → made < 2 ^ 62 → next_event s e.task ≡ Some e → Fits e (shared s) (thread_part s e.task)
@@ -174,8 +166,10 @@ fits s made e lawful few is =
       owner = there e.owner names.owner;
       woken = there e.woken names.woken;
       kinds = All-default (λ (thread : ThreadPart). length thread.kinds ≡ length s.locks) s.threads e.task.0 _ lawful.shape.kinds names.task;
-      call = answered e.reply (call_of (thread_part s e.task)) (calling s e.task e is);
-      can = answer-can s made e.task e lawful chosen;
+      calling = answer-calling s made e lawful chosen;
+      counted = law-counted (thread_part s e.task) (lawful.migration e.task);
+      call = answer-call s made e lawful chosen;
+      can = answer-can s made e lawful chosen;
       queue = ready.queue;
       link = ready.link;
       first = ready.first;
@@ -232,6 +226,12 @@ module _ (sh : Shared) (threads : List ThreadPart) (made : ℕ) (now : Made) (e 
       let one_more : suc made ≡ made + 1 = omega arith in
       let kept = IsLawful-next (with_threads sh threads) made e.task e lawful (next (with_threads sh threads) made e lawful chosen_there) in
       subst (λ (n : ℕ). IsLawful (with_threads left (slice_set threads e.task.0 moved)) n) one_more (subst (λ (x : State). IsLawful x (suc made)) (sym (left_here left thread moved at is_left is_moved)) kept)
+
+  -- with each task on the processor of the cells that it has
+  pub cells_left : (script : Script) → IsScript script → IsOf script now.state → CellsLaw script now.state → CellsLaw script (state_after now.state e)
+  cells_left script valid of law =
+      let lawful_now = subst (λ (m : Made). IsLawful m.state m.made) is lawful in
+      CellsLaw-next script valid now.state now.made e of lawful_now chosen law
 
   -- and whose kept sets are right where the involved tasks were looked at anew
   pub kept-left : (kept after : Enabled) (left : Shared) (thread moved : ThreadPart) → thread ≡ get_or threads e.task.0 thread → left ≡ shared_after sh thread e → moved ≡ thread_after sh thread e → AreKept (with_threads sh threads) kept

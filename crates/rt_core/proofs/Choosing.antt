@@ -14,7 +14,7 @@ use Rattle.rt_model.specs.State.{State, shared, task_part, thread_part}
 use Rattle.rt_model.specs.NextEvent.{event_in, event_of, next_event}
 use Rattle.rt_model.specs.Choice.{present_lock}
 use Rattle.rt_model.specs.Path.{first_broken}
-use Rattle.rt_model.specs.Stage.{IsServed, IsPhaseOf}
+use Rattle.rt_model.specs.CallKinds.{IsServed, IsPhaseOf}
 use Rattle.rt_model.specs.events.Walk.{confirmed_event}
 use Rattle.rt_model.specs.laws.Phases.{PhasesLaw}
 use Rattle.rt_model.specs.laws.Lawful.{IsLawful}
@@ -45,7 +45,7 @@ module _ (s : State) (made : ℕ) (t : TaskId) (lawful : IsLawful s made) where
     where
       by_call : (call : Option Call) → call_of (thread_part s t) ≡ call → IfSome call (IsServed (length s.threads) (length s.locks))
       by_call None is = tt
-      by_call (Some call) is = served_call s t call lawful.stage is
+      by_call (Some call) is = served_call s t call lawful.calls is
 
   -- the lock on which a task is blocked is there
   pub blocked-within : (u : TaskId) → IfSome (task_part s u).blocked (λ at. at.0.0 < length s.locks)
@@ -53,7 +53,7 @@ module _ (s : State) (made : ℕ) (t : TaskId) (lawful : IsLawful s made) where
     where
       by_place : (blocked : Option (LockId × ℕ)) → (task_part s u).blocked ≡ blocked → IfSome blocked (λ at. at.0.0 < length s.locks)
       by_place None is = tt
-      by_place (Some at) is = (WaitsFor-blocked s u at lawful.stage lawful.phases lawful.queued is).lock
+      by_place (Some at) is = (WaitsFor-blocked s u at lawful.calls lawful.phases lawful.queued is).lock
 
   pub blocked-lock : (u : TaskId) (l : LockId) → option_map (λ (at : LockId × ℕ). at.0) (task_part s u).blocked ≡ Some l → l.0 < length s.locks
   blocked-lock u l is = by_place (task_part s u).blocked is (blocked-within u)

@@ -1,61 +1,72 @@
 -- A thread can take each answer of a next event: the hold that it gives back it has, and has counted.
-use Rattle.std.proofs.Common.{◌≡◌, ◌⊎◌, inl, inr, ℕ, ◌<◌, length, true, sym, subst, Option, Some, None, IfSome}
-use Rattle.std.specs.Prelude.{slice_get, unwrap_or}
+use Rattle.std.proofs.Common.{◌≡◌, ℕ, ◌+◌, ◌≤◌, length, refl, sym, subst, arith, Option, Some, None, IfSome, IsSome}
 use Rattle.rt_base.specs.declared.call.Call.{Call}
 use Rattle.rt_base.specs.declared.call.Call.TheVariants as calls
-use Rattle.rt_base.specs.declared.id.LockId.{LockId}
 use Rattle.rt_base.specs.declared.id.TaskId.{TaskId}
-use Rattle.rt_base.specs.declared.kind.Kind.{Kind}
-use Rattle.rt_base.specs.declared.kind.Kind.TheVariants.{Mutex, RwLock, RwSem}
 use Rattle.rt_base.specs.declared.reply.Reply.{Reply}
 use Rattle.rt_base.specs.declared.reply.Reply.TheVariants as replies
 use Rattle.rt_model.specs.declared.event.Event.{Event}
-use Rattle.rt_model.specs.Parts.{ThreadPart, call_of, hold_of, kind_of}
-use Rattle.rt_model.specs.State.{State, thread_part}
-use Rattle.rt_model.specs.Stage.{HasReadersAt, IsForKind}
+use Rattle.rt_model.specs.declared.phase.Phase.{Phase}
+use Rattle.rt_model.specs.Parts.{ThreadPart, call_of}
+use Rattle.rt_model.specs.State.{State, shared, thread_part}
+use Rattle.rt_model.specs.Effect.{around}
+use Rattle.rt_model.specs.Rules.{touched}
+use Rattle.rt_model.specs.StateAfter.{shared_after}
+use Rattle.rt_model.specs.steps.Thread.{is_start}
 use Rattle.rt_model.specs.laws.Lawful.{IsLawful}
-use Rattle.rt_model.specs.laws.Migration.{pinned}
+use Rattle.rt_model.specs.laws.Migration.{pinned, pins_calling}
 use Rattle.rt_model.proofs.Calling.{at_call}
 use Rattle.rt_model.proofs.NextEvents.{IsNext}
-use Rattle.rt_model.proofs.laws.Migration.{Counted, IsCounted, its_answer, call-fits, holds-long, reader_kind, spin-counts, rwlock-counts}
-use Rattle.rt_parts.specs.Thread.{HasRead, HasPin, CanUnpin, CanAnswer}
+use Rattle.rt_model.proofs.PartsAfter.{thread-phase}
+use Rattle.rt_model.proofs.laws.Migration.{Counted, IsCounted as IsAnswered, its_answer, call-fits, holds-long, left_by_event, left-pinned, calling-most, taken-counted}
+use Rattle.rt_parts.specs.Thread.{HasRead, IsCounted, CanAnswer}
 
 -- it has the read hold
 has-read : (thread : ThreadPart) (call : Call) (answer : Reply) → Counted thread call answer → HasRead thread (Some call) answer
 has-read thread (calls.Unread l) replies.Done counted = counted
 has-read thread _ _ counted = tt
 
--- and has counted what it holds, of a reader/writer lock where that counts
-module _ (thread : ThreadPart) (long : length thread.holds ≡ length thread.kinds) (law : thread.migration ≡ pinned thread) where
-  can-unpin : (l : LockId) → HasReadersAt thread.kinds l.0 → ((hold_of thread l).owns ≡ true) ⊎ (0 < (hold_of thread l).reads) → CanUnpin (kind_of thread l) thread.migration
-  can-unpin l fits held = by_kind (reader_kind (slice_get thread.kinds l.0) fits)
+-- a call counts one at most
+pub law-counted : (thread : ThreadPart) → thread.migration ≡ pinned thread + pins_calling (call_of thread) (is_start thread.phase) → IsCounted thread
+law-counted thread law = let most = calling-most (call_of thread) (is_start thread.phase) in omega (arith, law, most)
+
+-- before its answer an event leaves its thread at its call, which can have that answer
+module _ (s : State) (made : ℕ) (e : Event) (lawful : IsLawful s made) (next : IsNext s e.task e) where
+  abbrev thread : ThreadPart
+  thread = thread_part s e.task
+
+  its : IsAnswered s e.task e.reply
+  its = its_answer s e.task made e lawful next
+
+  -- in whatever phase, and with whatever count it leaves it
+  can : (phase : Phase) (count : ℕ) → count ≡ pinned thread + pins_calling (call_of thread) (is_start phase) → (reply : Option Reply) → IfSome reply (Counted thread its.call)
+      → IfSome reply (λ (answer : Reply). CanAnswer (record thread { phase = phase; migration = count }) (call_of thread) answer)
+  can phase count law None counted = tt
+  can phase count law (Some answer) counted =
+      let left : ThreadPart = record thread { phase = phase; migration = count } in
+      let long = holds-long s made e.task lawful (at_call s e.task its.call its.calling).1 in
+      let here = subst (λ (call : Option Call). count ≡ pinned thread + pins_calling call (is_start phase)) its.calling law in
+      subst (λ (call : Option Call). CanAnswer left call answer) (sym its.calling) (record {
+        read = has-read left its.call answer counted;
+        pins = taken-counted left long its.call answer (call-fits s e.task its.call lawful.calls its.calling) counted here;
+        counted = law-counted left law;
+      })
+
+  moved : left_by_event s e ≡ record thread { phase = (left_by_event s e).phase; migration = (left_by_event s e).migration }
+  moved = thread-phase e.kind e thread (around (shared s) (touched e.kind e)) (around (shared_after (shared s) thread e) (touched e.kind e)) thread
+
+  pub answer-can : IfSome e.reply (λ (answer : Reply). CanAnswer (left_by_event s e) (call_of (left_by_event s e)) answer)
+  answer-can =
+      let law = subst (λ (th : ThreadPart). th.migration ≡ pinned th + pins_calling (call_of th) (is_start th.phase)) moved (left-pinned s e.task e made lawful next) in
+      subst (λ (th : ThreadPart). IfSome e.reply (λ (answer : Reply). CanAnswer th (call_of th) answer)) (sym moved) (can _ _ law e.reply its.counted)
+
+  -- it is at a call, before that and then
+  pub answer-calling : IsSome (call_of thread)
+  answer-calling = subst IsSome (sym its.calling) refl
+
+  pub answer-call : IfSome e.reply (λ _. IsSome (call_of (left_by_event s e)))
+  answer-call = subst (λ (th : ThreadPart). IfSome e.reply (λ _. IsSome (call_of th))) (sym moved) (at e.reply)
     where
-      at : (kind : Kind) → slice_get thread.kinds l.0 ≡ Some kind → CanUnpin kind thread.migration → CanUnpin (kind_of thread l) thread.migration
-      at kind is can = subst (λ (k : Option Kind). CanUnpin (unwrap_or k Mutex) thread.migration) (sym is) can
-
-      by_kind : (slice_get thread.kinds l.0 ≡ Some RwLock) ⊎ (slice_get thread.kinds l.0 ≡ Some RwSem) → CanUnpin (kind_of thread l) thread.migration
-      by_kind (inl is) = at RwLock is (rwlock-counts thread long l is held law)
-      by_kind (inr is) = at RwSem is tt
-
-  has-pin : (call : Call) (answer : Reply) → IsForKind thread.kinds call → Counted thread call answer → HasPin thread (Some call) answer
-  has-pin (calls.Unspin l) replies.Done fits counted = spin-counts thread long l fits counted law
-  has-pin (calls.Unread l) replies.Done fits counted = can-unpin l fits (inr counted)
-  has-pin (calls.Unwrite l) replies.Done fits counted = can-unpin l fits (inl counted)
-  has-pin _ _ fits counted = tt
-
-pub answer-can : (s : State) (made : ℕ) (t : TaskId) (e : Event) → IsLawful s made → IsNext s t e
-    → IfSome e.reply (λ (answer : Reply). CanAnswer (thread_part s t) (call_of (thread_part s t)) answer)
-answer-can s made t e lawful next = by_reply e.reply its.counted
-  where
-    its : IsCounted s t e.reply
-    its = its_answer s t made e lawful next
-
-    by_reply : (reply : Option Reply) → IfSome reply (Counted (thread_part s t) its.call) → IfSome reply (λ (answer : Reply). CanAnswer (thread_part s t) (call_of (thread_part s t)) answer)
-    by_reply None counted = tt
-    by_reply (Some answer) counted =
-        let thread = thread_part s t in
-        let long = holds-long s made t lawful (at_call s t its.call its.calling).1 in
-        subst (λ (call : Option Call). CanAnswer thread call answer) (sym its.calling) (record {
-          read = has-read thread its.call answer counted;
-          pin = has-pin thread long (lawful.migration t) its.call answer (call-fits s t its.call lawful.stage its.calling) counted;
-        })
+      at : (reply : Option Reply) → IfSome reply (λ _. IsSome (call_of thread))
+      at None = tt
+      at (Some answer) = answer-calling

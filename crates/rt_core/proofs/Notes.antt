@@ -14,7 +14,7 @@ use Rattle.rt_model.specs.State.{State, task_part, thread_part}
 use Rattle.rt_model.specs.Run.{is_enabled}
 use Rattle.rt_model.specs.laws.Shape.{IsOf}
 use Rattle.rt_model.specs.Choice.{called_lock}
-use Rattle.rt_model.specs.Stage.{IsServed, IsPhaseOf, waits_to_write}
+use Rattle.rt_model.specs.CallKinds.{IsServed, IsPhaseOf, waits_to_write}
 use Rattle.rt_model.specs.laws.Lawful.{IsLawful}
 use Rattle.rt_model.proofs.Calling.{served_call}
 use Rattle.rt_model.proofs.Waiters.{WaitsFor-blocked}
@@ -27,13 +27,13 @@ use Rattle.rt_core.specs.Report.{blocked_note, readers_note, phase_note, call_no
 -- a task that is blocked is so on a lock that is there
 blocked_within : (s : State) (made : ℕ) (t : TaskId) (at : Option (LockId × ℕ)) → IsLawful s made → (task_part s t).blocked ≡ at → IsNoteWithin (length s.threads) (length s.locks) (blocked_note at)
 blocked_within s made t None lawful is = tt
-blocked_within s made t (Some at) lawful is = (WaitsFor-blocked s t at lawful.stage lawful.phases lawful.queued is).lock
+blocked_within s made t (Some at) lawful is = (WaitsFor-blocked s t at lawful.calls lawful.phases lawful.queued is).lock
 
 ready_or : (s : State) (t : TaskId) (waiting : Note) → IsNoteWithin (length s.threads) (length s.locks) waiting → IsNoteWithin (length s.threads) (length s.locks) (cond (is_enabled s t.0) notes.Ready waiting)
 ready_or s t waiting within = cond_both (is_enabled s t.0) notes.Ready waiting (IsNoteWithin (length s.threads) (length s.locks)) (λ _. tt) (λ _. within)
 
 -- a writer that sleeps for readers does so at a lock that is there
-readers_within : (tasks locks : ℕ) (cpu : Cpu) (call : Call) → IsServed tasks locks call → waits_to_write call ≡ true → IsNoteWithin tasks locks (readers_note (called_lock cpu call))
+readers_within : (tasks locks : ℕ) (cpu : Cpu) (call : Call) → IsServed tasks locks call → waits_to_write call ≡ true → IsNoteWithin tasks locks (readers_note (called_lock call))
 readers_within tasks locks cpu (calls.Write l) served writes = served
 readers_within tasks locks cpu _ served writes = cc
 
@@ -41,7 +41,7 @@ phase_within : (s : State) (made : ℕ) (t : TaskId) (call : Call) (phase : Phas
     → IsNoteWithin (length s.threads) (length s.locks) (phase_note phase s t call)
 phase_within s made t call phases.Wait at lawful calling fits = ready_or s t (blocked_note (task_part s t).blocked) (blocked_within s made t (task_part s t).blocked lawful refl)
 phase_within s made t call phases.WWait at lawful calling fits =
-    ready_or s t (readers_note (called_lock (thread_part s t).cpu call)) (readers_within (length s.threads) (length s.locks) (thread_part s t).cpu call (served_call s t call lawful.stage calling) fits)
+    ready_or s t (readers_note (called_lock call)) (readers_within (length s.threads) (length s.locks) (thread_part s t).cpu call (served_call s t call lawful.calls calling) fits)
 phase_within s made t call (phases.Walk cursor route) at lawful calling fits = cursor-within s made t lawful cursor route at
 phase_within s made t call (phases.Confirm path) at lawful calling fits = tt
 phase_within s made t call _ at lawful calling fits = ready_or s t notes.Wake tt

@@ -15,7 +15,7 @@ use Rattle.rt_model.specs.StateAfter.{effect_in, shared_after}
 use Rattle.rt_walk.specs.Link.{awaited}
 use Rattle.rt_parts.specs.Links.{IsQueuedAt, HasRoom}
 use Rattle.rt_model.specs.steps.Readers.{CanStep}
-use Rattle.rt_parts.specs.Thread.{CanAnswer}
+use Rattle.rt_parts.specs.Thread.{IsCounted, CanAnswer}
 
 -- ---- by the kind
 
@@ -65,7 +65,11 @@ CanSet _ e = Unit {0}
 
 -- ---- all of it
 
--- what the event names is there, its thread knows all locks and is at a call that can be answered, and what its kind needs holds
+-- the thread as the event leaves it, but for an answer
+abbrev pub thread_moved : Shared → ThreadPart → Event → ThreadPart
+thread_moved sh thread e = (effect_in sh thread e).thread (around (shared_after sh thread e) (touched e.kind e)) thread
+
+-- what the event names is there, its thread knows all locks and is then at a call that can be answered, and what its kind needs holds
 pub record Fits (e : Event) (sh : Shared) (thread : ThreadPart) : Type 0 where
   pub task : e.task.0 < length sh.tasks
   pub lock : IfSome e.lock (λ l. l.0 < length sh.locks)
@@ -74,14 +78,12 @@ pub record Fits (e : Event) (sh : Shared) (thread : ThreadPart) : Type 0 where
   pub owner : IfSome e.owner (λ t. t.0 < length sh.tasks)
   pub woken : IfSome e.woken (λ t. t.0 < length sh.tasks)
   pub kinds : length thread.kinds ≡ length sh.locks
-  pub call : IfSome e.reply (λ _. IsSome (call_of thread))
-  pub can : IfSome e.reply (λ (answer : Reply). CanAnswer thread (call_of thread) answer)
+  pub calling : IsSome (call_of thread)
+  pub counted : IsCounted thread
+  pub call : IfSome e.reply (λ _. IsSome (call_of (thread_moved sh thread e)))
+  pub can : IfSome e.reply (λ (answer : Reply). CanAnswer (thread_moved sh thread e) (call_of (thread_moved sh thread e)) answer)
   pub queue : CanQueue e.kind e (lock_at sh e.lock)
   pub link : CanLink e.kind e sh thread
   pub first : NamesOwner e.kind e sh
   pub set : CanSet e.kind e
   pub step : CanStep e.kind e.value (readers_at sh (touched e.kind e).readers)
-
--- the thread as the event leaves it, but for an answer
-abbrev pub thread_moved : Shared → ThreadPart → Event → ThreadPart
-thread_moved sh thread e = (effect_in sh thread e).thread (around (shared_after sh thread e) (touched e.kind e)) thread

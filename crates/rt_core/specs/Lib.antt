@@ -10,7 +10,7 @@ pub use Rattle.rt_base.specs.Kind
 pub use Rattle.rt_model.specs.Parts
 pub use Rattle.rt_model.specs.Rows
 pub use Rattle.rt_model.specs.State
-pub use Rattle.rt_model.specs.Stage
+pub use Rattle.rt_model.specs.CallKinds
 pub use Rattle.rt_model.specs.Path
 pub use Rattle.rt_model.specs.Graph
 pub use Rattle.rt_model.specs.Rounds

@@ -29,7 +29,7 @@ readers_note (Some l) = notes.Readers l
 
 abbrev pub waiting_note : Phase → TaskPart → ThreadPart → Call → Note
 waiting_note phases.Wait task thread call = blocked_note task.blocked
-waiting_note phases.WWait task thread call = readers_note (called_lock thread.cpu call)
+waiting_note phases.WWait task thread call = readers_note (called_lock call)
 waiting_note _ task thread call = notes.Wake
 
 abbrev pub phase_note : Phase → State → TaskId → Call → Note

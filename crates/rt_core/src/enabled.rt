@@ -4,7 +4,7 @@ ghost use Rattle.rt_model.specs.declared.phase.Phase.TheVariants.{Start};
 ghost use Rattle.rt_model.specs.Choice.{called_lock};
 ghost use Rattle.rt_model.specs.Parts.{TaskPart, call_of};
 ghost use Rattle.rt_model.specs.CanMove.{has_first, can_go_on, can_in, can_move, IsOther, IsUninvolved};
-ghost use Rattle.rt_model.specs.Stage.{IsServed};
+ghost use Rattle.rt_model.specs.CallKinds.{IsServed};
 ghost use Rattle.rt_core.specs.Core.{with_threads};
 ghost use Rattle.rt_core.specs.Enabled.{IsKeptAt, AreKept};
 
@@ -117,7 +117,7 @@ fn has_first(call: &Call, task: &TaskCell) -> bool
     ensures { result ≡ has_first call.now task.now }
 {
     match call {
-        Call::Local(_) | Call::Unlocal(_) | Call::Move(_) => false,
+        Call::Move(_) => false,
         Call::Schedule => task.passes(),
         _ => true,
     }
@@ -128,7 +128,7 @@ fn has_first(call: &Call, task: &TaskCell) -> bool
 fn can_go_on(phase: &Phase, thread: &Thread, task: &TaskCell, call: &Call) -> bool
     requires call { call_of thread.now ≡ Some call.now }
     requires known { IsServed MAX_TASKS (length thread.now.kinds) call.now }
-    ensures { result ≡ can_go_on phase.now thread.now task.now (called_lock thread.now.cpu call.now) }
+    ensures { result ≡ can_go_on phase.now thread.now task.now (called_lock call.now) }
 {
     match (phase, thread.called_lock(call)) {
         (Phase::Walk(..) | Phase::Confirm(_), _) => true,

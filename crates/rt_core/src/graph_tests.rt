@@ -130,7 +130,6 @@ fn walks_end(rt: &impl Abort, core: &mut Core) -> Result<(), Fail> {
 fn starts(rt: &impl Abort, alloc: Global, text: &[u8]) -> Result<Core, Fail> {
     assert!(rt; text.len() < 1000);
     let script = read_script(alloc, text)?;
-    assert!(rt; Core::can(&script));
     Ok(Core::new(alloc, &script)?)
 }
 

@@ -11,7 +11,6 @@ mod machine;
 #[cfg(test)]
 mod machine_tests;
 mod note;
-mod playable;
 mod report;
 mod spinning;
 mod task_set;

@@ -1,9 +1,9 @@
-ghost use Rattle.std.specs.Prelude.{◌≡◌, ◌↔◌, ◌<◌, ◌≤◌, ◌+◌, ◌^◌, ◌++◌, ℕ, length, false, All, IsTrue, None, Some, IfOk, IfSome, vec_len, vec_capacity};
+ghost use Rattle.std.specs.Prelude.{◌≡◌, ◌<◌, ◌≤◌, ◌+◌, ◌^◌, ◌++◌, ℕ, length, false, All, None, Some, IfOk, IfSome, vec_len, vec_capacity};
 ghost use Rattle.std.specs.List.{count_by};
-ghost use Rattle.rt_base.specs.Script.{Script};
+ghost use Rattle.rt_base.specs.Script.{Script, IsScript};
 ghost use Rattle.rt_model.specs.declared.obj.Obj.{Obj};
 ghost use Rattle.rt_model.specs.Parts.{call_of, effective_of};
-ghost use Rattle.rt_model.specs.Stage.{IsPlayable, IsServed};
+ghost use Rattle.rt_model.specs.CallKinds.{IsServed};
 ghost use Rattle.rt_model.specs.State.{State, start, shared, object, owner_part, reader_part, task_part, thread_part};
 ghost use Rattle.rt_model.specs.NextEvent.{next_event};
 ghost use Rattle.rt_model.specs.StateAfter.{state_after};
@@ -12,6 +12,7 @@ ghost use Rattle.rt_model.specs.Run.{is_done, is_stuck, is_enabled, lowest};
 ghost use Rattle.rt_model.specs.Order.{in_walk, is_walking};
 ghost use Rattle.rt_model.specs.laws.Shape.{IsOf, IsWithin, SameSize};
 ghost use Rattle.rt_model.specs.laws.Lawful.{IsLawful};
+ghost use Rattle.rt_model.specs.laws.Cells.{CellsLaw};
 ghost use Rattle.rt_model.specs.laws.Wakeups.{flat_state};
 ghost use Rattle.rt_model.specs.laws.Local.{AgreeOn};
 ghost use Rattle.rt_events.specs.Entry.{entry};
@@ -22,7 +23,6 @@ ghost use Rattle.rt_core.specs.Core.{Made};
 use crate::effect::make;
 use crate::enabled::Enabled;
 use crate::note::{Note, blocked_note, readers_note};
-use crate::playable::is_playable;
 use crate::report::{write_lock_line, write_task_line};
 use crate::spinning::waits_spinning;
 use rt_base::limits::{LINE_LIMIT, MAX_CALLS, MAX_TASKS};
@@ -61,20 +61,12 @@ impl Model for Core {
 }
 
 impl Core {
-    /// Whether the machine plays a script, so far one without local locks, in which no task moves to another
-    /// processor.
-    pub fn can(script: &Script) -> bool
-        ensures { IsTrue result ↔ IsPlayable script.now }
-    {
-        is_playable(script)
-    }
-
     /// The machine in the script's start state: no holder, no waiter, every task running.
     pub fn new(alloc: Global, script: &Script) -> Result<Core, NoMemory>
-        requires { IsPlayable script.now }
         ensures start { IfOk result (λ core. core ≡ record { state = start script.now; made = 0 }) }
         ensures script { IfOk result (λ core. IsOf script.now core.state) }
         ensures lawful { IfOk result (λ core. IsLawful core.state core.made) }
+        ensures cells { IfOk result (λ core. CellsLaw script.now core.state) }
     {
         let shared = Shared::new(alloc, script)?;
         let threads = threads(alloc, script)?;
@@ -283,9 +275,10 @@ impl Core {
         ensures local { (s : State) → SameSize self.old.state s → AgreeOn e.now self.old.state s → AgreeOn e.now self.new.state (state_after s e.now) }
         ensures frame { (o : Obj) → touches e.now o ≡ false → object self.new.state o ≡ object self.old.state o }
 
-        // The core is still one of its script, and lawful.
+        // The core is still one of its script, and lawful, with each task on the processor of the cells that it has.
         ensures script { (script : Script) → IsOf script self.old.state → IsOf script self.new.state }
         ensures lawful { IsLawful self.new.state self.new.made }
+        ensures cells { (script : Script) → IsScript script → IsOf script self.old.state → CellsLaw script self.old.state → CellsLaw script self.new.state }
     {
         make(&mut self.shared, &mut self.threads[e.task.0 as usize], e);
         self.enabled

@@ -53,7 +53,6 @@ fn one_task_takes_and_releases(rt: HostRuntime) -> Result<(), Fail> {
         let text = format!(in rt.alloc(); "rtscript 1\ntask a 50 0\nlock m mutex\n{calls}go\n")?;
         assert!(rt; text.len() < 100);
         let script = read_script(rt.alloc(), text.as_bytes())?;
-        assert!(rt; Core::can(&script));
         let mut core = Core::new(rt.alloc(), &script)?;
         makes(&rt, &script, &mut core, 0, A, first)?;
         makes(&rt, &script, &mut core, 1, A, second)?;
@@ -69,7 +68,6 @@ fn a_waiter_is_given_the_lock(rt: HostRuntime) -> Result<(), Fail> {
     let text = b"rtscript 1\ntask a 50 0\ntask b 20 0\nlock m mutex\n\
         call a lock m\ncall a unlock m\ncall b lock m\ncall b unlock m\ngo\n";
     let script = read_script(rt.alloc(), text)?;
-    assert!(rt; Core::can(&script));
     let mut core = Core::new(rt.alloc(), &script)?;
     makes(&rt, &script, &mut core, 0, A, FAST)?;
     makes(&rt, &script, &mut core, 1, B, MARK)?;
@@ -100,7 +98,6 @@ fn two_wait_and_nobody_gets_on(rt: HostRuntime) -> Result<(), Fail> {
     let text = b"rtscript 1\ntask a 50 0\ntask b 20 0\ntask c 10 0\nlock m mutex\n\
         call a lock m\ncall b lock m\ncall c lock m\ngo\n";
     let script = read_script(rt.alloc(), text)?;
-    assert!(rt; Core::can(&script));
     let mut core = Core::new(rt.alloc(), &script)?;
     makes(&rt, &script, &mut core, 0, A, FAST)?;
     makes(&rt, &script, &mut core, 1, B, MARK)?;
@@ -124,7 +121,6 @@ fn a_walk_goes_along_a_chain(rt: HostRuntime) -> Result<(), Fail> {
     let text = b"rtscript 1\ntask a 90 0\ntask b 50 0\ntask c 10 0\nlock m mutex\nlock n mutex\n\
         call a lock m\ncall b lock n\ncall b lock m\ncall c lock n\ngo\n";
     let script = read_script(rt.alloc(), text)?;
-    assert!(rt; Core::can(&script));
     let mut core = Core::new(rt.alloc(), &script)?;
     makes(&rt, &script, &mut core, 0, A, FAST)?;
     makes(&rt, &script, &mut core, 1, B, FAST)?;
@@ -150,7 +146,6 @@ fn a_cycle_is_looked_at(rt: HostRuntime) -> Result<(), Fail> {
     let text = b"rtscript 1\ntask a 50 0\ntask b 40 0\nlock m mutex\nlock n mutex\n\
         call a lock m\ncall a lock n\ncall b lock n\ncall b lock m\ngo\n";
     let script = read_script(rt.alloc(), text)?;
-    assert!(rt; Core::can(&script));
     let mut core = Core::new(rt.alloc(), &script)?;
     makes(&rt, &script, &mut core, 0, A, FAST)?;
     makes(&rt, &script, &mut core, 1, B, FAST)?;
@@ -187,7 +182,6 @@ fn a_signal_ends_a_wait(rt: HostRuntime) -> Result<(), Fail> {
     let text = b"rtscript 1\ntask a 50 0\ntask b 20 0\nlock m mutex\n\
         call a lock m\ncall a signal b\ncall b lockint m\ngo\n";
     let script = read_script(rt.alloc(), text)?;
-    assert!(rt; Core::can(&script));
     let mut core = Core::new(rt.alloc(), &script)?;
     makes(&rt, &script, &mut core, 0, A, FAST)?;
     makes(&rt, &script, &mut core, 1, B, MARK)?;
@@ -231,7 +225,6 @@ fn a_spinlock_leaves_the_flat_state(rt: HostRuntime) -> Result<(), Fail> {
         )?;
         assert!(rt; text.len() < 200);
         let script = read_script(rt.alloc(), text.as_bytes())?;
-        assert!(rt; Core::can(&script));
         let mut core = Core::new(rt.alloc(), &script)?;
         makes(&rt, &script, &mut core, 0, A, FAST)?;
         makes(&rt, &script, &mut core, 1, B, STATE)?;
@@ -262,7 +255,6 @@ fn a_writer_leaves_the_flat_state(rt: HostRuntime) -> Result<(), Fail> {
         )?;
         assert!(rt; text.len() < 200);
         let script = read_script(rt.alloc(), text.as_bytes())?;
-        assert!(rt; Core::can(&script));
         let mut core = Core::new(rt.alloc(), &script)?;
         let read = (EventKind::RIn, None, None, Some(Reply::Got));
         makes(&rt, &script, &mut core, 0, A, read)?;
@@ -419,56 +411,6 @@ fn reports(
         let mut out = Vec::with_capacity(alloc, 4096)?;
         core.report_line(script, i as u32, &mut out);
         assert_eq!(rt; out.as_slice(), line.as_bytes());
-    }
-    Ok(())
-}
-
-// Which scripts the machine plays: all but those with a local lock, or with a `move`.
-#[test]
-fn scripts_that_can_be_played(rt: HostRuntime) -> Result<(), Fail> {
-    for (lines, can) in [
-        ("", true),
-        ("cpus 8\nlock m mutex\n", true),
-        (
-            "task a 5 0\nlock m mutex\ncall a lock m\ncall a unlock m\n",
-            true,
-        ),
-        ("lock s spin\n", true),
-        ("lock x rwlock\n", true),
-        ("lock x rwsem\n", true),
-        ("lock l local\n", false),
-        ("lock m mutex\nlock n mutex\n", true),
-        (
-            "task a 5 0\nlock m mutex\ncall a trylock m\ncall a setprio a 7\n",
-            true,
-        ),
-        (
-            "task a 5 0\nlock m mutex\ncall a lockint m\ncall a signal a\n",
-            true,
-        ),
-        (
-            "task a 5 0\nlock m mutex\ncall a lockint m\ncall a state S\n",
-            true,
-        ),
-        (
-            "task a 5 0\nlock s spin\ncall a spin s\ncall a tryspin s\ncall a unspin s\n",
-            true,
-        ),
-        (
-            "task a 5 0\nlock x rwlock\ncall a read x\ncall a unread x\ncall a write x\ncall a downgrade x\n",
-            true,
-        ),
-        (
-            "task a 5 0\ntask b 5 0\ncall b signal a\ncall b wake a\n",
-            true,
-        ),
-        ("task a 5 0\ncall a schedule\n", true),
-        ("task a 5 0\ncall a schedule\ncall a move 0\n", false),
-    ] {
-        let text = format!(in rt.alloc(); "rtscript 1\n{lines}go\n")?;
-        assert!(rt; text.len() < 1000);
-        let script = read_script(rt.alloc(), text.as_bytes())?;
-        assert_eq!(rt; Core::can(&script), can, "{lines}");
     }
     Ok(())
 }

@@ -146,7 +146,6 @@ fn plays(
 ) -> Result<(), Fail> {
     assert!(rt; text.len() < 1000);
     let script = read_script(alloc, text)?;
-    assert!(rt; Core::can(&script));
     let mut core = Core::new(alloc, &script)?;
     tells(rt, &core, true, &[]);
     for &(t, rest, stands) in steps {
@@ -201,7 +200,6 @@ fn walks_along_a_long_chain(rt: HostRuntime) -> Result<(), Fail> {
         call g lock s\ncall g lock r\ncall g unlock r\ncall g unlock s\n\
         call h lock s\ncall h unlock s\ngo\n";
     let script = read_script(rt.alloc(), text)?;
-    assert!(rt; Core::can(&script));
     let mut core = Core::new(rt.alloc(), &script)?;
     let (mut links, mut most) = (0, 0);
     let _ = moves(&rt, &mut core, A);
@@ -230,8 +228,8 @@ fn walks_along_a_long_chain(rt: HostRuntime) -> Result<(), Fail> {
     Ok(())
 }
 
-// How many tasks are noted to walk.
-fn walking(rt: &impl Abort, core: &Core) -> u32 {
+/// How many tasks are noted to walk.
+pub(crate) fn walking(rt: &impl Abort, core: &Core) -> u32 {
     let mut walks = 0;
     for t in 0..core.tasks() {
         match core.note(TaskId(t)) {

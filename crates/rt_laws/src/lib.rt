@@ -7,6 +7,8 @@
 mod cycle;
 #[cfg(test)]
 mod laws_tests;
+#[cfg(test)]
+mod random_tests;
 mod rest;
 
 pub use cycle::cycle_at;

@@ -18,8 +18,8 @@ use Rattle.rt_model.proofs.Numbers.{number_itself, nobodys}
 use Rattle.rt_model.proofs.events.Acquire.{AsksBy, from_start, from_reading}
 
 -- the lock that a thread's call is about
-pub present-at : (s : State) (t : TaskId) (phase : Phase) (call : Call) (lock : Option LockId) → IsIn s t phase call → called_lock (thread_part s t).cpu call ≡ lock → present_lock (thread_part s t) ≡ lock
-present-at s t phase call lock at about = ap (λ (c : Option Call). option_and_then (called_lock (thread_part s t).cpu) c) at.calling ∙ about
+pub present-at : (s : State) (t : TaskId) (phase : Phase) (call : Call) (lock : Option LockId) → IsIn s t phase call → called_lock call ≡ lock → present_lock (thread_part s t) ≡ lock
+present-at s t phase call lock at about = ap (λ (c : Option Call). option_and_then called_lock c) at.calling ∙ about
 
 -- in any other phase a thread is inside no lock
 pub outside : (thread : ThreadPart) (l : LockId) → has_inner thread.phase ≡ false → is_passing thread l ≡ false
@@ -45,7 +45,7 @@ apart-owns thread l is = ap (λ (b : Bool). (hold_of thread l).owns || b) is ∙
 pub outside-owns : (thread : ThreadPart) (l : LockId) → has_inner thread.phase ≡ false → has_owner_part thread l ≡ (hold_of thread l).owns
 outside-owns thread l is = apart-owns thread l (outside thread l is)
 
-pub inside-its : (s : State) (t : TaskId) (l : LockId) (phase : Phase) (call : Call) → IsIn s t phase call → has_inner phase ≡ true → called_lock (thread_part s t).cpu call ≡ Some l → is_passing (thread_part s t) l ≡ true
+pub inside-its : (s : State) (t : TaskId) (l : LockId) (phase : Phase) (call : Call) → IsIn s t phase call → has_inner phase ≡ true → called_lock call ≡ Some l → is_passing (thread_part s t) l ≡ true
 inside-its s t l phase call at is about = inside-at (thread_part s t) l l (ap has_inner at.phased ∙ is) (present-at s t phase call (Some l) at about) ∙ number_itself l.0
 
 module _ (s : State) (t : TaskId) (l : LockId) (owners : OwnersLaw s) where
@@ -54,12 +54,12 @@ module _ (s : State) (t : TaskId) (l : LockId) (owners : OwnersLaw s) where
   outside-owned phase call at is = sym (outside-owns (thread_part s t) l (ap has_inner at.phased ∙ is)) ∙ owners.owned l t
 
   -- one in such a phase owns the lock that its call is about
-  pub inside-owned : (phase : Phase) (call : Call) → IsIn s t phase call → has_inner phase ≡ true → called_lock (thread_part s t).cpu call ≡ Some l → owned_by (owner_part s l).owner t ≡ true
+  pub inside-owned : (phase : Phase) (call : Call) → IsIn s t phase call → has_inner phase ≡ true → called_lock call ≡ Some l → owned_by (owner_part s l).owner t ≡ true
   inside-owned phase call at is about =
       sym (owners.owned l t) ∙ (ap (λ (b : Bool). (hold_of (thread_part s t) l).owns || b) (inside-its s t l phase call at is about) ∙ or_true (hold_of (thread_part s t) l).owns)
 
   -- and holds it, not for reading, where it gives it back
-  pub inside-gives : (phase : Phase) (call : Call) → IsIn s t phase call → has_inner phase ≡ true → called_lock (thread_part s t).cpu call ≡ Some l → (hold_of (thread_part s t) l).owns ≡ gives_back phase (Some call)
+  pub inside-gives : (phase : Phase) (call : Call) → IsIn s t phase call → has_inner phase ≡ true → called_lock call ≡ Some l → (hold_of (thread_part s t) l).owns ≡ gives_back phase (Some call)
   inside-gives phase call at is about = owners.inside l t (inside-its s t l phase call at is about) ∙ (λ i. gives_back (at.phased i) (at.calling i))
 
   -- what nobody owns it doesn't hold, but for reading
@@ -72,7 +72,7 @@ module _ (s : State) (t : TaskId) (l : LockId) (owners : OwnersLaw s) where
     where
       by_how : ReturnsBy s t l is.call → owned_by (owner_part s l).owner t ≡ true
       by_how (from_hold releases at held) = sym (outside-owned phases.Start is.call at refl) ∙ held
-      by_how (from_inside ends at) = inside-owned phases.Release is.call at refl (ends-called (thread_part s t).cpu is.call l ends)
+      by_how (from_inside ends at) = inside-owned phases.Release is.call at refl (ends-called is.call l ends)
 
 -- one that asks for a lock doesn't own it
 pub asks-unowned : (s : State) (made : ℕ) (t : TaskId) (l : LockId) → IsLawful s made → AsksBy s t l → owned_by (owner_part s l).owner t ≡ false

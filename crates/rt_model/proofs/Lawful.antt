@@ -7,7 +7,7 @@ use Rattle.rt_model.specs.StateAfter.{state_after}
 use Rattle.rt_model.specs.laws.Lawful.{IsLawful}
 use Rattle.rt_model.proofs.NextEvents.{IsNext}
 use Rattle.rt_model.proofs.Named.{within}
-use Rattle.rt_model.proofs.laws.Shape.{IsShaped-after, IsStaged-after}
+use Rattle.rt_model.proofs.laws.Shape.{IsShaped-after, CallsFit-after}
 use Rattle.rt_model.proofs.laws.Phases.{PhasesLaw-next}
 use Rattle.rt_model.proofs.laws.Rows.{RowsLaw-next}
 use Rattle.rt_model.proofs.laws.KeptTops.{KeptTopsLaw-next}
@@ -28,7 +28,7 @@ IsLawful-next s made t e lawful next =
     let names = within s made t e lawful next in
     record {
       shape = IsShaped-after s e names lawful.shape;
-      stage = IsStaged-after s e names.task lawful.stage;
+      calls = CallsFit-after s e names.task lawful.calls;
       phases = PhasesLaw-next s made t e lawful next;
       rows = RowsLaw-next s made t e lawful next;
       kept = KeptTopsLaw-next s made t e lawful next;

@@ -18,7 +18,7 @@ use Rattle.rt_model.specs.declared.phase.Route.TheVariants.{Short}
 use Rattle.rt_model.specs.Parts.{OwnerPart, TaskPart, ThreadPart, effective_of, kind_of, call_of}
 use Rattle.rt_model.specs.Rows.{top_key}
 use Rattle.rt_model.specs.State.{State, shared, lock_at, task_at, owner_part, task_part, thread_part}
-use Rattle.rt_model.specs.Stage.{IsToCome, IsPhaseOf}
+use Rattle.rt_model.specs.CallKinds.{IsToCome, IsPhaseOf}
 use Rattle.rt_model.specs.Path.{first_lock, first_owner, first_broken, is_blocked_on, keeps_top}
 use Rattle.rt_model.specs.steps.Lock.{left_by}
 use Rattle.rt_model.specs.steps.Task.{refreshed, leave_queue, interrupted}
@@ -132,7 +132,7 @@ record Leaving (s : State) (t : TaskId) (l : LockId) (answer : Reply) (step : Bo
   locked : (lock : OwnerPart) → (effect_in (shared s) (thread_part s t) x).lock lock ≡ left_by t lock
   stepped : (task : TaskPart) → (effect_in (shared s) (thread_part s t) x).own (lock_left (shared s) (thread_part s t) x) task ≡ step (spins (kind_of (thread_part s t) l)) task
   kept : (task : TaskPart) → (effect_in (shared s) (thread_part s t) x).owner (lock_left (shared s) (thread_part s t) x) task ≡ refreshed (Some l) (left_by t (owner_part s l)).rows task
-  thread : (left : Around) → (effect_in (shared s) (thread_part s t) x).thread left (thread_part s t) ≡ record (thread_part s t) { phase = phase_of_walk (Short answer) (goes_on t (Short answer) (owner_part s l).owner left.owner) }
+  thread : (left : Around) → (effect_in (shared s) (thread_part s t) x).thread left (thread_part s t) ≡ record (thread_part s t) { phase = phase_of_walk (goes_on t (Short answer) (owner_part s l).owner left.owner) }
 
 leaving : (s : State) (t : TaskId) (l : LockId) (e : Event) (is : IsLeft s t l e) → Leaving s t l (left_answer is) (left_step is) (left_made s t l e is)
 leaving s t l e (by_leave is) =
@@ -148,7 +148,7 @@ leaving s t l e (by_cycle path o m rest is round owned) =
       locked = λ lock. refl;
       stepped = λ task. refl;
       kept = λ task. refl;
-      thread = λ left. ap (λ (owner : Option TaskId). record (thread_part s t) { phase = phase_of_walk (Short Deadlock) (goes_on t (Short Deadlock) owner left.owner) }) named;
+      thread = λ left. ap (λ (owner : Option TaskId). record (thread_part s t) { phase = phase_of_walk (goes_on t (Short Deadlock) owner left.owner) }) named;
     }
 
 -- ---- what it leaves
@@ -199,7 +199,7 @@ module _ (s : State) (made : ℕ) (t : TaskId) (l : LockId) (e : Event) (lawful 
     where
       to_come : (i : IsLeft s t l e) (asks : Asks s t (left_phase i) l) → IsToCome asks.call (left_answer i)
       to_come (by_leave leaves) asks = let same : asks.call ≡ calls.LockInt l = let also = leaves.at.calling in let this = asks.at.calling in cc in subst (λ (c : Call). IsToCome c Interrupted) (sym same) (inr refl)
-      to_come (by_cycle path o m rest tells round owned) asks = waits-holds (λ c. IsToCome c Deadlock) asks.call l asks.waits_for refl (inl refl) refl refl refl
+      to_come (by_cycle path o m rest tells round owned) asks = waits-holds (λ c. IsToCome c Deadlock) asks.call l asks.waits_for refl (inl refl) refl refl refl refl
 
   -- ---- locks
 
@@ -326,14 +326,14 @@ module _ (s : State) (made : ℕ) (t : TaskId) (l : LockId) (e : Event) (lawful 
   pub left-thread : thread_after (shared s) (thread_part s t) (left_made s t l e is) ≡ walked_thread (thread_part s t) (Short (left_answer is)) left_next
   left-thread =
       ap (λ (th : ThreadPart). answered_with th (left_made s t l e is).reply) (does.thread (around (shared_after (shared s) (thread_part s t) x) (touched x.kind x)))
-      ∙ (ap (λ (o : Option TaskId). walked o) does.owner ∙ ap (λ (next : Option Phase). answered_with (record (thread_part s t) { phase = phase_of_walk (Short (left_answer is)) next }) (left_made s t l e is).reply) (begun x (left-is s t l e is)))
+      ∙ (ap (λ (o : Option TaskId). walked o) does.owner ∙ ap (λ (next : Option Phase). answered_with (record (thread_part s t) { phase = phase_of_walk next }) (left_made s t l e is).reply) (begun x (left-is s t l e is)))
     where
       x : Event
       x = left_made s t l e is
 
       walked : Option TaskId → ThreadPart
       walked o =
-          answered_with (record (thread_part s t) { phase = phase_of_walk (Short (left_answer is)) (goes_on t (Short (left_answer is)) (owner_part s l).owner (task_at (shared (state_after s x)) o)) })
+          answered_with (record (thread_part s t) { phase = phase_of_walk (goes_on t (Short (left_answer is)) (owner_part s l).owner (task_at (shared (state_after s x)) o)) })
           (left_made s t l e is).reply
 
   pub left-thread_own : thread_part (state_after s e) t ≡ walked_thread (thread_part s t) (Short (left_answer is)) left_next

@@ -9,6 +9,7 @@ pub mod Queues
 -- how an event comes about, and the parts that it leaves
 pub mod Touching
 pub mod Alike
+pub mod Cells
 pub mod Calling
 pub mod ToCome
 pub mod events

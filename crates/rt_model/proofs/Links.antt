@@ -37,7 +37,7 @@ use Rattle.rt_model.proofs.events.Wakeups.{IsSetPrio}
 
 -- a thread whose walk goes on to this phase, or ends
 abbrev pub walked_thread : ThreadPart → Route → Option Phase → ThreadPart
-walked_thread thread route next = answered_with (record thread { phase = phase_of_walk route next }) (answer_of_walk route next)
+walked_thread thread route next = answered_with (record thread { phase = phase_of_walk next }) (answer_of_walk route next)
 
 -- the tasks that an event names are in the list of tasks
 pub slots_there : (s : State) (x : Event) → IsShaped s → IfSome (touched x.kind x).owner (λ v. v.0 < length s.threads) → IfSome (touched x.kind x).other (λ v. v.0 < length s.threads)
@@ -146,8 +146,8 @@ module _ (s : State) (made : ℕ) (t : TaskId) (route : Route) (u : TaskId) (l :
   pub link-thread : thread_after (shared s) (thread_part s t) link_made ≡ walked_thread (thread_part s t) route link_next
   link-thread =
       ap (λ (p : Phase). answered_with (record (thread_part s t) { phase = phase_after_link t (Some l) (owner_part s l).owner (task_at (shared (state_after s link_made)) (owner_part s l).owner) p }) (answer_of_walk route link_next)) (walk-phase s t route u is.how)
-      ∙ (ap (λ (y : Event). answered_with (record (thread_part s t) { phase = phase_of_walk route (goes_on t (followed u l route) (owner_part s l).owner (task_at (shared (state_after s y)) (owner_part s l).owner)) }) (answer_of_walk route link_next)) (sym is.event)
-      ∙ ap (λ (n : Option Phase). answered_with (record (thread_part s t) { phase = phase_of_walk route n }) (answer_of_walk route link_next)) next_left)
+      ∙ (ap (λ (y : Event). answered_with (record (thread_part s t) { phase = phase_of_walk (goes_on t (followed u l route) (owner_part s l).owner (task_at (shared (state_after s y)) (owner_part s l).owner)) }) (answer_of_walk route link_next)) (sym is.event)
+      ∙ ap (λ (n : Option Phase). answered_with (record (thread_part s t) { phase = phase_of_walk n }) (answer_of_walk route link_next)) next_left)
 
 -- ---- a walk's end
 
@@ -223,7 +223,7 @@ module _ (s : State) (made : ℕ) (t u : TaskId) (prio : ℕ) (e : Event) (lawfu
 
   pub setprio-thread : thread_after (shared s) (thread_part s t) setprio_made ≡ walked_thread (thread_part s t) (Short Done) setprio_next
   setprio-thread =
-      ap (λ (task : TaskPart). answered_with (record (thread_part s t) { phase = phase_of_walk (Short Done) (goes_on t (Short Done) (Some u) task) }) (answer_of_walk (Short Done) setprio_next))
+      ap (λ (task : TaskPart). answered_with (record (thread_part s t) { phase = phase_of_walk (goes_on t (Short Done) (Some u) task) }) (answer_of_walk (Short Done) setprio_next))
       (sym (ap (λ (y : Event). task_part (state_after s y) u) is.event) ∙ setprio-target)
 
 -- ---- what a link leaves of a task, part by part

@@ -66,6 +66,8 @@ first-own sh t thread (calls.Unlock l) = either-own t (lock_in sh l).bit (give_e
 first-own sh t thread (calls.Spin l) = either-own t (is_free (lock_in sh l)) _ _ refl refl
 first-own sh t thread (calls.TrySpin l) = try-own sh t thread l
 first-own sh t thread (calls.Unspin l) = either-own t (lock_in sh l).bit (give_event (call_of thread) t l (lock_in sh l) (task_in sh t)) _ refl refl
+first-own sh t thread (calls.Local l) = either-own t (is_free (lock_in sh l)) _ _ refl refl
+first-own sh t thread (calls.Unlocal l) = either-own t (lock_in sh l).bit (give_event (call_of thread) t l (lock_in sh l) (task_in sh t)) _ refl refl
 first-own sh t thread (calls.State state) = refl
 first-own sh t thread calls.Schedule = where-own t (passes (task_in sh t)) (sched_event t) refl
 first-own sh t thread (calls.Wake u) = refl
@@ -120,8 +122,8 @@ later-own phases.WakeWriter sh t thread (Some l) = refl
 later-own _ sh t thread lock = tt
 
 in_phase-own : (phase : Phase) (sh : Shared) (t : TaskId) (thread : ThreadPart) (call : Call) → IsOwn t (event_in phase sh t thread call)
-in_phase-own phases.Start sh t thread call = answered-own sh t thread call (called_lock thread.cpu call) (own_answer thread call)
-in_phase-own phase sh t thread call = later-own phase sh t thread (called_lock thread.cpu call)
+in_phase-own phases.Start sh t thread call = answered-own sh t thread call (called_lock call) (own_answer thread call)
+in_phase-own phase sh t thread call = later-own phase sh t thread (called_lock call)
 
 at_call-own : (sh : Shared) (t : TaskId) (thread : ThreadPart) (call : Option Call) → IsOwn t (event_of sh t thread call)
 at_call-own sh t thread None = tt
@@ -141,6 +143,8 @@ local-first t thread calls.Schedule a b = same-schedule t a b
 local-first t thread (calls.Wake u) a b = gives_alike (λ sh. wake_event t u (task_in sh u)) a b (same-other a b u (wake_event t u) refl)
 local-first t thread (calls.Signal u) a b = gives_alike (λ sh. signal_event t u (task_in sh u)) a b (same-other a b u (signal_event t u) refl)
 local-first t thread (calls.SetPrio u prio) a b = gives_alike (λ sh. setprio_event t u prio (task_in sh u)) a b (same-other a b u (setprio_event t u prio) refl)
+local-first t thread (calls.Local l) a b = gives_alike (λ sh. acquire_event (call_of thread) t l (lock_in sh l)) a b (same-acquire a b (call_of thread) t l)
+local-first t thread (calls.Unlocal l) a b = gives_alike (λ sh. release_event (call_of thread) t l (lock_in sh l) (task_in sh t)) a b (same-release a b (call_of thread) t l)
 local-first t thread (calls.Lock l) a b = gives_alike (λ sh. acquire_event (call_of thread) t l (lock_in sh l)) a b (same-acquire a b (call_of thread) t l)
 local-first t thread (calls.LockInt l) a b = gives_alike (λ sh. acquire_event (call_of thread) t l (lock_in sh l)) a b (same-acquire a b (call_of thread) t l)
 local-first t thread (calls.Unlock l) a b = gives_alike (λ sh. release_event (call_of thread) t l (lock_in sh l) (task_in sh t)) a b (same-release a b (call_of thread) t l)
@@ -168,8 +172,8 @@ local-later phases.WakeWriter t thread (Some l) a b = gives_alike (λ sh. wwake_
 local-later _ t thread lock a b = λ e is alike. is
 
 local-in : (phase : Phase) (t : TaskId) (thread : ThreadPart) (call : Call) (a b : Shared) → GivesAlike (λ sh. event_in phase sh t thread call) a b
-local-in phases.Start t thread call a b = local-answered t thread call (called_lock thread.cpu call) (own_answer thread call) a b
-local-in phase t thread call a b = local-later phase t thread (called_lock thread.cpu call) a b
+local-in phases.Start t thread call a b = local-answered t thread call (called_lock call) (own_answer thread call) a b
+local-in phase t thread call a b = local-later phase t thread (called_lock call) a b
 
 local-of : (t : TaskId) (thread : ThreadPart) (call : Option Call) (a b : Shared) → GivesAlike (λ sh. event_of sh t thread call) a b
 local-of t thread None a b = λ e is alike. is
@@ -223,8 +227,8 @@ has-later phases.WWait sh t thread (Some l) = has-where (runs (task_in sh t).sta
 has-later _ sh t thread lock = refl
 
 has-in : (phase : Phase) (sh : Shared) (t : TaskId) (thread : ThreadPart) (call : Call) → is_some (event_in phase sh t thread call) ≡ can_in phase thread (task_in sh t) call
-has-in phases.Start sh t thread call = has-answered sh t thread call (called_lock thread.cpu call) (own_answer thread call)
-has-in phase sh t thread call = has-later phase sh t thread (called_lock thread.cpu call)
+has-in phases.Start sh t thread call = has-answered sh t thread call (called_lock call) (own_answer thread call)
+has-in phase sh t thread call = has-later phase sh t thread (called_lock call)
 
 has-of : (sh : Shared) (t : TaskId) (thread : ThreadPart) (call : Option Call) → is_some (event_of sh t thread call) ≡ can_at thread (task_in sh t) call
 has-of sh t thread None = refl

@@ -5,7 +5,6 @@ use Rattle.std.proofs.lemmas.Bool.{cond_both}
 use Rattle.std.proofs.lemmas.List.Elements.{All-nil, All-filter}
 use Rattle.rt_base.specs.declared.call.Call.{Call}
 use Rattle.rt_base.specs.declared.call.Call.TheVariants as calls
-use Rattle.rt_base.specs.declared.id.Cpu.{Cpu}
 use Rattle.rt_base.specs.declared.id.LockId.{LockId}
 use Rattle.rt_base.specs.declared.id.TaskId.{TaskId}
 use Rattle.rt_base.specs.declared.reply.Reply.{Reply}
@@ -15,9 +14,9 @@ use Rattle.rt_model.specs.declared.phase.Route.{Route}
 use Rattle.rt_model.specs.declared.row.Row.{Row}
 use Rattle.rt_model.specs.Parts.{OwnerPart, TaskPart, effective_of}
 use Rattle.rt_model.specs.Rows.{top_waiter, top_changed, top_task, task_of, is_of, without}
-use Rattle.rt_model.specs.State.{State, shared, lock_at, task_at, owner_part, task_part, thread_part}
+use Rattle.rt_model.specs.State.{State, shared, lock_at, task_at, owner_part, task_part}
 use Rattle.rt_model.specs.Choice.{called_lock, boost_of, boost_at}
-use Rattle.rt_model.specs.Stage.{IsServed}
+use Rattle.rt_model.specs.CallKinds.{IsServed}
 use Rattle.rt_model.specs.Path.{Link, first_lock, first_owner}
 use Rattle.rt_model.specs.events.Walk.{cycle_event}
 use Rattle.rt_model.specs.steps.Lock.{requeued}
@@ -38,27 +37,29 @@ use Rattle.rt_model.proofs.Waiters.{cursor-there, confirm-walk, round-begins, wa
 use Rattle.rt_model.proofs.PathLinks.{All-links_of, broken-holds}
 use Rattle.rt_model.proofs.Within.{owner_within, rows_within}
 
-called_within : (m n : ℕ) (cpu : Cpu) (call : Call) → IsServed m n call → IfSome (called_lock cpu call) (λ l. l.0 < n)
-called_within m n cpu (calls.Lock l) served = served
-called_within m n cpu (calls.LockInt l) served = served
-called_within m n cpu (calls.TryLock l) served = served
-called_within m n cpu (calls.Unlock l) served = served
-called_within m n cpu (calls.Spin l) served = served
-called_within m n cpu (calls.TrySpin l) served = served
-called_within m n cpu (calls.Unspin l) served = served
-called_within m n cpu (calls.Read l) served = served
-called_within m n cpu (calls.TryRead l) served = served
-called_within m n cpu (calls.Unread l) served = served
-called_within m n cpu (calls.Write l) served = served
-called_within m n cpu (calls.TryWrite l) served = served
-called_within m n cpu (calls.Unwrite l) served = served
-called_within m n cpu (calls.Downgrade l) served = served
-called_within m n cpu (calls.State state) served = tt
-called_within m n cpu calls.Schedule served = tt
-called_within m n cpu (calls.Wake u) served = tt
-called_within m n cpu (calls.Signal u) served = tt
-called_within m n cpu (calls.SetPrio u prio) served = tt
-called_within m n cpu _ served = absurd served
+called_within : (m n : ℕ) (call : Call) → IsServed m n call → IfSome (called_lock call) (λ l. l.0 < n)
+called_within m n (calls.Lock l) served = served
+called_within m n (calls.LockInt l) served = served
+called_within m n (calls.TryLock l) served = served
+called_within m n (calls.Unlock l) served = served
+called_within m n (calls.Spin l) served = served
+called_within m n (calls.TrySpin l) served = served
+called_within m n (calls.Unspin l) served = served
+called_within m n (calls.Read l) served = served
+called_within m n (calls.TryRead l) served = served
+called_within m n (calls.Unread l) served = served
+called_within m n (calls.Write l) served = served
+called_within m n (calls.TryWrite l) served = served
+called_within m n (calls.Unwrite l) served = served
+called_within m n (calls.Downgrade l) served = served
+called_within m n (calls.State state) served = tt
+called_within m n calls.Schedule served = tt
+called_within m n (calls.Wake u) served = tt
+called_within m n (calls.Signal u) served = tt
+called_within m n (calls.SetPrio u prio) served = tt
+called_within m n (calls.Local l) served = served
+called_within m n (calls.Unlocal l) served = served
+called_within m n (calls.Move cpu) served = tt
 
 boost_within : (n : ℕ) (t : TaskId) (before after : ℕ) → t.0 < n → IfSome (boost_of t before after) (λ b. b.0.0 < n)
 boost_within n t before after lt = by_test (nat_eq before after)
@@ -104,7 +105,7 @@ module _ (s : State) (made : ℕ) (t : TaskId) (e : Event) (lawful : IsLawful s 
 
   of_own : (call : Call) (answer : Reply) → IsOwn s t call answer e → Within e
   of_own call answer is =
-      let lock = called_within (length s.threads) (length s.locks) (thread_part s t).cpu call is.at.served in
+      let lock = called_within (length s.threads) (length s.locks) call is.at.served in
       subst Within (sym is.event) (record { task = is.at.task; lock = lock; other = tt; owner = tt; woken = tt; boost = tt; path = none })
 
   of_acquire : (l : LockId) → IsAcquire s t l e → Within e

@@ -12,7 +12,7 @@ use Rattle.rt_model.specs.declared.phase.Route.{Route}
 use Rattle.rt_model.specs.Parts.{call_of, kind_of}
 use Rattle.rt_model.specs.Choice.{called_lock}
 use Rattle.rt_model.specs.State.{State, shared, task_at, owner_part, reader_part, task_part, thread_part}
-use Rattle.rt_model.specs.Stage.{IsServed, IsStaged, waits, waits_to_read, waits_to_write, writes, releases_inner, ends_read, IsPhaseOf}
+use Rattle.rt_model.specs.CallKinds.{IsServed, CallsFit, waits, waits_to_read, waits_to_write, writes, releases_inner, ends_read, IsPhaseOf}
 use Rattle.rt_model.specs.Path.{first_broken}
 use Rattle.rt_model.specs.events.Acquire.{acquire_event, try_event}
 use Rattle.rt_model.specs.events.Release.{release_event}
@@ -23,7 +23,7 @@ use Rattle.rt_model.specs.events.Wakeups.{state_event, wake_event, signal_event,
 use Rattle.rt_model.specs.events.Own.{own_answer}
 use Rattle.rt_model.specs.NextEvent.{first_event, answered_or, later_event, event_in, event_of, next_event}
 use Rattle.rt_model.specs.laws.Phases.{PhasesLaw}
-use Rattle.rt_model.proofs.Calling.{IsIn, at_call, served_call, by_lock, by_lockint, by_spin, by_read, by_write, by_trylock, by_tryspin, by_trywrite, by_unlock, by_unspin, EndsInner, of_read, of_trywrite, of_unwrite, of_downgrade, ends-holds, from_hold, from_inside, Writes, writes_by, tries_by, writes-holds, asked}
+use Rattle.rt_model.proofs.Calling.{IsIn, at_call, served_call, by_lock, by_lockint, by_spin, by_local, by_read, by_write, by_trylock, by_tryspin, by_trywrite, by_unlock, by_unspin, by_unlocal, EndsInner, of_read, of_trywrite, of_unwrite, of_downgrade, ends-holds, from_hold, from_inside, Writes, writes_by, tries_by, writes-holds, asked}
 use Rattle.rt_model.proofs.events.Own.{IsOwn, not_held, unheld, was_held, read_unheld, write_unheld}
 use Rattle.rt_model.proofs.events.Acquire.{IsAcquire, IsTake, from_start, from_reading, is_fast, is_mark, is_take, is_busy, acquired, tried}
 use Rattle.rt_model.proofs.events.Release.{IsRelease, is_free, is_give, released}
@@ -57,6 +57,8 @@ first_next s t (calls.TryLock l) e at served none is =
 first_next s t (calls.TrySpin l) e at served none is =
     let same : try_event (call_of (thread_part s t)) t l (kind_of (thread_part s t) l) (owner_part s l) (task_part s t) ≡ e = cc in
     by_acquire l (tried s t l e (record { call = calls.TrySpin l; tries_for = by_tryspin refl; at = at; lock = served }) same)
+first_next s t (calls.Local l) e at served none is =
+    let same : acquire_event (call_of (thread_part s t)) t l (owner_part s l) ≡ e = cc in by_acquire l (acquired s t l e (from_start (record { call = calls.Local l; waits_for = by_local refl; at = at }) (unheld _ none)) same)
 first_next s t (calls.State state) e at served none is = by_wakeup (is_state state (record { at = at; event = let same : state_event t state ≡ e = cc in sym same }))
 first_next s t calls.Schedule e at served none is = by_wakeup (scheduled s t e at is)
 first_next s t (calls.Wake u) e at served none is = by_wakeup (is_wake u (record { at = at; event = let same : wake_event t u (task_part s u) ≡ e = cc in sym same }))
@@ -68,6 +70,9 @@ first_next s t (calls.Unlock l) e at served none is =
 first_next s t (calls.Unspin l) e at served none is =
     let same : release_event (call_of (thread_part s t)) t l (owner_part s l) (task_part s t) ≡ e = cc in
     by_release l (released s t l e (record { call = calls.Unspin l; calling = at.calling; by = from_hold (by_unspin refl) at (was_held _ none); task = at.task; lock = served }) same)
+first_next s t (calls.Unlocal l) e at served none is =
+    let same : release_event (call_of (thread_part s t)) t l (owner_part s l) (task_part s t) ≡ e = cc in
+    by_release l (released s t l e (record { call = calls.Unlocal l; calling = at.calling; by = from_hold (by_unlocal refl) at (was_held _ none); task = at.task; lock = served }) same)
 first_next s t (calls.Read l) e at served none is =
     let same : read_event t l (reader_part s l) ≡ e = cc in
     by_reading l (reads_at s t l e at served (read_unheld l (Some (kind_of (thread_part s t) l)) _ _ _ none) same)
@@ -81,10 +86,10 @@ first_next s t (calls.TryWrite l) e at served none is =
     by_acquire l (tried s t l e (record { call = calls.TryWrite l; tries_for = by_trywrite refl; at = at; lock = served }) same)
 first_next s t (calls.Unwrite l) e at served none is = let same : wopen_event t l 0 ≡ e = cc in by_reading l (is_opened (record { at = at; lock = served; event = sym same }) (was_held _ none))
 first_next s t (calls.Downgrade l) e at served none is = let same : wopen_event t l 1 ≡ e = cc in by_reading l (is_downgraded (record { at = at; lock = served; event = sym same }) (was_held _ none))
-first_next s t _ e at served none is = absurd served
+first_next s t (calls.Move cpu) e at served none is = cc
 
 started : (s : State) (t : TaskId) (call : Call) (e : Event) (answer : Option Reply) → IsIn s t phases.Start call → IsServed (length s.threads) (length s.locks) call → own_answer (thread_part s t) call ≡ answer
-    → answered_or (first_event (shared s) t (thread_part s t) call) t (called_lock (thread_part s t).cpu call) answer ≡ Some e → IsNext s t e
+    → answered_or (first_event (shared s) t (thread_part s t) call) t (called_lock call) answer ≡ Some e → IsNext s t e
 started s t call e None at served none is = first_next s t call e at served none is
 started s t call e (Some answer) at served some is = by_own call answer (record { at = at; why = some; event = cc })
 
@@ -93,14 +98,14 @@ taken_or_waiting s t l e (inl takes) = by_acquire l (is_take takes)
 taken_or_waiting s t l e (inr waiting) = by_wait l waiting
 
 -- a call in such a phase waits for some lock
-in_slow : (s : State) (t : TaskId) (call : Call) (e : Event) → IsIn s t phases.Slow call → waits call ≡ true → later_event phases.Slow (shared s) t (thread_part s t) (called_lock (thread_part s t).cpu call) ≡ Some e → IsNext s t e
+in_slow : (s : State) (t : TaskId) (call : Call) (e : Event) → IsIn s t phases.Slow call → waits call ≡ true → later_event phases.Slow (shared s) t (thread_part s t) (called_lock call) ≡ Some e → IsNext s t e
 in_slow s t call e at fits is =
     let some = asked s t phases.Slow call at fits in
     let l : LockId = some.0 in
     let made = subst (λ (lock : Option LockId). later_event phases.Slow (shared s) t (thread_part s t) lock ≡ Some e) some.2 is in
     let same : slow_event (call_of (thread_part s t)) t l (kind_of (thread_part s t) l) (owner_part s l) (task_part s t) (task_at (shared s) (owner_part s l).owner) ≡ e = cc in taken_or_waiting s t l e (slowed s t l e some.1 same)
 
-in_wait : (s : State) (t : TaskId) (call : Call) (e : Event) → IsIn s t phases.Wait call → waits call ≡ true → later_event phases.Wait (shared s) t (thread_part s t) (called_lock (thread_part s t).cpu call) ≡ Some e → IsNext s t e
+in_wait : (s : State) (t : TaskId) (call : Call) (e : Event) → IsIn s t phases.Wait call → waits call ≡ true → later_event phases.Wait (shared s) t (thread_part s t) (called_lock call) ≡ Some e → IsNext s t e
 in_wait s t call e at fits is =
     let some = asked s t phases.Wait call at fits in
     let made = subst (λ (lock : Option LockId). later_event phases.Wait (shared s) t (thread_part s t) lock ≡ Some e) some.2 is in
@@ -136,7 +141,7 @@ ended_by _ is = cc
 
 -- what its later event is, by its call
 abbrev Later : State → TaskId → Event → Phase → Call → Type 0
-Later s t e phase call = later_event phase (shared s) t (thread_part s t) (called_lock (thread_part s t).cpu call) ≡ Some e
+Later s t e phase call = later_event phase (shared s) t (thread_part s t) (called_lock call) ≡ Some e
 
 in_inner : (s : State) (t : TaskId) (call : Call) (e : Event) → IsIn s t phases.Inner call → waits_to_read call ≡ true → Later s t e phases.Inner call → IsNext s t e
 in_inner s t call e at fits is = of_call (read_by call fits).0 (read_by call fits).1
@@ -221,14 +226,14 @@ in_phase s t call e phases.WWait at fits is = in_wwait s t call e at fits is
 in_phase s t call e phases.Release at fits is = in_release s t call e at fits is
 in_phase s t call e phases.WakeWriter at fits is = in_wake_writer s t call e at fits is
 
-at_call_of : (s : State) (t : TaskId) (e : Event) (call : Option Call) → IsStaged s → PhasesLaw s → call_of (thread_part s t) ≡ call → event_of (shared s) t (thread_part s t) call ≡ Some e → IsNext s t e
+at_call_of : (s : State) (t : TaskId) (e : Event) (call : Option Call) → CallsFit s → PhasesLaw s → call_of (thread_part s t) ≡ call → event_of (shared s) t (thread_part s t) call ≡ Some e → IsNext s t e
 at_call_of s t e None staged phased at is = cc
 at_call_of s t e (Some call) staged phased at is =
     in_phase s t call e (thread_part s t).phase (record { calling = at; phased = refl; task = (at_call s t call at).1; served = served_call s t call staged at })
     (subst (λ (c : Option Call). IsPhaseOf (thread_part s t).phase c) at (phased t)) is
 
 -- each next event is one of these
-pub choice : (s : State) (t : TaskId) (e : Event) → IsStaged s → PhasesLaw s → next_event s t ≡ Some e → IsNext s t e
+pub choice : (s : State) (t : TaskId) (e : Event) → CallsFit s → PhasesLaw s → next_event s t ≡ Some e → IsNext s t e
 choice s t e staged phased is = at_call_of s t e (call_of (thread_part s t)) staged phased refl is
 
 -- and it is its task's

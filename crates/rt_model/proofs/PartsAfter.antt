@@ -164,8 +164,9 @@ thread-made P s e x u is lt own others =
     subst (λ (y : Event). P u (thread_part (state_after s y) u)) (sym is)
     (at_each_task (λ v. P v (thread_part (state_after s x) v)) x.task u (subst (P x.task) (sym (thread-own s x x refl lt)) own) (λ ne. subst (P u) (sym (thread-other s x u ne)) (others ne)))
 
--- an effect leaves all of a thread but its phase
-pub thread-phase : (kind : EventKind) (e : Event) (th : ThreadPart) (found left : Around) (old : ThreadPart) → (effect kind e th found).thread left old ≡ record old { phase = ((effect kind e th found).thread left old).phase }
+-- an effect leaves all of a thread but its phase, and where it sets the bit its migration count
+pub thread-phase : (kind : EventKind) (e : Event) (th : ThreadPart) (found left : Around) (old : ThreadPart)
+    → (effect kind e th found).thread left old ≡ record old { phase = ((effect kind e th found).thread left old).phase; migration = ((effect kind e th found).thread left old).migration }
 thread-phase kinds.Mark e th found left old = refl
 thread-phase _ e th found left old = refl
 

@@ -31,7 +31,7 @@ run-rest s (e ∷ prefix) rest run = run-rest (state_after s e) prefix rest run.
 
 -- a run's first event is the next one of its task
 pub run-next : (s : State) (made : ℕ) (e : Event) (rest : List Event) → IsLawful s made → IsRun s (e ∷ rest) → IsNext s e.task e
-run-next s made e rest lawful run = choice s e.task e lawful.stage lawful.phases run.0
+run-next s made e rest lawful run = choice s e.task e lawful.calls lawful.phases run.0
 
 -- and leaves a lawful state
 pub run-lawful : (s : State) (made : ℕ) (e : Event) (rest : List Event) → IsLawful s made → IsRun s (e ∷ rest) → IsLawful (state_after s e) (suc made)

@@ -1,7 +1,6 @@
 -- How many readers a thread is, and all of them: no more than their calls.
 use Rattle.std.proofs.Common.{◌≡◌, ◌+◌, ◌-◌, ◌<◌, ◌≤◌, Bool, true, false, cond, ◌&&◌, length, map, refl, ap, ◌∙◌, arith, Option, Some, None}
 use Rattle.std.specs.Prelude.{sum}
-use Rattle.std.proofs.lemmas.Option.{slice_get_within}
 use Rattle.rt_base.specs.declared.call.Call.{Call}
 use Rattle.rt_base.specs.declared.id.LockId.{LockId}
 use Rattle.rt_base.specs.declared.id.TaskId.{TaskId}
@@ -13,6 +12,7 @@ use Rattle.rt_model.specs.State.{State, no_thread, reader_part, thread_part}
 use Rattle.rt_model.specs.laws.Readers.{has_come, coming, going, readers_by, all_readers}
 use Rattle.rt_model.specs.laws.Shape.{calls_of}
 use Rattle.rt_model.proofs.Counts.{sum-most}
+use Rattle.rt_model.proofs.Calling.{call-within}
 
 module _ (l : LockId) (thread : ThreadPart) (within : thread.answered ≤ length thread.calls) (few : (hold_of thread l).reads ≤ thread.answered) where
   one-most : (b : Bool) → cond b 1 0 ≤ 1
@@ -37,12 +37,12 @@ module _ (l : LockId) (thread : ThreadPart) (within : thread.answered ≤ length
           omega (arith, within, few, nobody)
       by_call (Some call) calling =
           let one : coming thread l ≤ 1 = one-most (has_come thread.phase (call_of thread) && is_on (present_lock thread) l) in
-          omega (arith, slice_get_within thread.calls thread.answered call calling, few, one)
+          omega (arith, call-within thread call calling, few, one)
 
   -- and fewer, where the call that it is at isn't one
   pub readers-less : (call : Call) → call_of thread ≡ Some call → coming thread l ≡ 0 → readers_by thread l < length thread.calls
   readers-less call calling nobody =
-      let less : (hold_of thread l).reads + coming thread l - going thread l < length thread.calls = omega (arith, slice_get_within thread.calls thread.answered call calling, few, nobody) in less
+      let less : (hold_of thread l).reads + coming thread l - going thread l < length thread.calls = omega (arith, call-within thread call calling, few, nobody) in less
 
 -- so a lock has no more readers than there are calls
 pub count-most : (s : State) (l : LockId) → (reader_part s l).count ≡ all_readers s.threads l → ((t : TaskId) → (hold_of (thread_part s t) l).reads ≤ (thread_part s t).answered)

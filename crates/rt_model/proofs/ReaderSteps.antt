@@ -1,5 +1,5 @@
 -- What each step on a reader part asks of it, it has in a lawful state.
-use Rattle.std.proofs.Common.{◌≡◌, ℕ, ◌-◌, ◌<◌, Bool, true, false, not, ◌&&◌, ◌||◌, length, map, refl, sym, ap, ◌∙◌, subst, arith, Some, IfSome}
+use Rattle.std.proofs.Common.{◌≡◌, ℕ, ◌<◌, Bool, true, false, not, ◌&&◌, ◌||◌, length, map, refl, sym, ap, ◌∙◌, subst, arith, Some, IfSome}
 use Rattle.std.specs.Prelude.{nat_eq, sum}
 use Rattle.std.proofs.lemmas.Bool.{or_left, or_right}
 use Rattle.std.proofs.lemmas.Bool.Decides.{nat_tests}
@@ -13,7 +13,7 @@ use Rattle.rt_model.specs.declared.phase.Phase.TheVariants as phases
 use Rattle.rt_model.specs.Parts.{ThreadPart, hold_of, kind_of, has_readers}
 use Rattle.rt_model.specs.Choice.{called_lock}
 use Rattle.rt_model.specs.State.{State, no_thread, reader_part, thread_part}
-use Rattle.rt_model.specs.Stage.{IsForKind, HasReadersAt}
+use Rattle.rt_model.specs.CallKinds.{IsForKind, HasReadersAt}
 use Rattle.rt_model.specs.Rules.{touched}
 use Rattle.rt_model.specs.steps.Readers.{CanStep}
 use Rattle.rt_model.specs.laws.Lawful.{IsLawful}
@@ -62,7 +62,7 @@ module _ (s : State) (made : ℕ) (t : TaskId) (e : Event) (lawful : IsLawful s 
   of_made l phase call x is fine = subst Fine (sym is.event) fine
 
   -- what the state says of a call on the lock in this phase
-  facts-at : (l : LockId) (phase : Phase) (call : Call) (x : Event) → IsMade s t l phase call x e → called_lock (thread_part s t).cpu call ≡ Some l → Facts (seen_in s made t lawful l phase call) (reader_part s l)
+  facts-at : (l : LockId) (phase : Phase) (call : Call) (x : Event) → IsMade s t l phase call x e → called_lock call ≡ Some l → Facts (seen_in s made t lawful l phase call) (reader_part s l)
   facts-at l phase call x is about = known s made t lawful l phase call is.at about
 
   abbrev rw : LockId → Bool
@@ -72,7 +72,7 @@ module _ (s : State) (made : ℕ) (t : TaskId) (e : Event) (lawful : IsLawful s 
   held l = (hold_of (thread_part s t) l).owns
 
   -- a writer on its way finds the bias off, and nobody in
-  unbiased-finds : (l : LockId) (phase : Phase) (call : Call) (x : Event) → IsMade s t l phase call x e → called_lock (thread_part s t).cpu call ≡ Some l → (seen_in s made t lawful l phase call).closing ≡ true
+  unbiased-finds : (l : LockId) (phase : Phase) (call : Call) (x : Event) → IsMade s t l phase call x e → called_lock call ≡ Some l → (seen_in s made t lawful l phase call).closing ≡ true
       → (seen_in s made t lawful l phase call).inside ≡ true → ((reader_part s l).bias ≡ false) × ((reader_part s l).writer ≡ false)
   unbiased-finds l phase call x is about closing inside =
       let facts = facts-at l phase call x is about in
@@ -82,7 +82,7 @@ module _ (s : State) (made : ℕ) (t : TaskId) (e : Event) (lawful : IsLawful s 
       )
 
   -- one that is in finds the bias off, and the write flag set
-  written-finds : (l : LockId) (call : Call) (x : Event) → IsMade s t l phases.Start call x e → called_lock (thread_part s t).cpu call ≡ Some l → (IsForKind (thread_part s t).kinds call → HasReadersAt (thread_part s t).kinds l.0) → held l ≡ true
+  written-finds : (l : LockId) (call : Call) (x : Event) → IsMade s t l phases.Start call x e → called_lock call ≡ Some l → (IsForKind (thread_part s t).kinds call → HasReadersAt (thread_part s t).kinds l.0) → held l ≡ true
       → ((reader_part s l).bias ≡ false) × ((reader_part s l).writer ≡ true)
   written-finds l call x is about fit owns =
       let facts = facts-at l phases.Start call x is about in
@@ -104,8 +104,8 @@ module _ (s : State) (made : ℕ) (t : TaskId) (e : Event) (lawful : IsLawful s 
       let one : 0 < (hold_of (thread_part s t) l).reads = grind (arith, nat_tests) in
       of_made l _ _ _ is (omega (arith, one, (facts-at l _ _ _ is refl).most))
   by_readers l (is_wwake is) = of_made l _ _ _ is tt
-  by_readers l (is_unbias call writes is) = of_made l _ _ _ is ((facts-at l _ _ _ is (writes-called (thread_part s t).cpu call l writes)).bias (or_right (held l) true refl) ∙ ap not (out (rw l) (held l)))
-  by_readers l (is_in call writes is can) = let finds = unbiased-finds l _ _ _ is (writes-called (thread_part s t).cpu call l writes) refl refl in of_made l _ _ _ is (finds.0, finds.1, can)
+  by_readers l (is_unbias call writes is) = of_made l _ _ _ is ((facts-at l _ _ _ is (writes-called call l writes)).bias (or_right (held l) true refl) ∙ ap not (out (rw l) (held l)))
+  by_readers l (is_in call writes is can) = let finds = unbiased-finds l _ _ _ is (writes-called call l writes) refl refl in of_made l _ _ _ is (finds.0, finds.1, can)
   by_readers l (is_in_late is runs can) = let finds = unbiased-finds l _ _ _ is refl refl refl in of_made l _ _ _ is (finds.0, finds.1, can)
   by_readers l (is_sleep is cannot) = of_made l _ _ _ is tt
   by_readers l (is_sleep_again is runs cannot) = of_made l _ _ _ is tt

@@ -13,7 +13,7 @@ use Rattle.rt_model.specs.declared.phase.Route.{Route}
 use Rattle.rt_model.specs.declared.phase.Route.TheVariants.{Full, Short}
 use Rattle.rt_model.specs.Parts.{TaskPart, ThreadPart, call_of, effective_of}
 use Rattle.rt_model.specs.State.{State, thread_part}
-use Rattle.rt_model.specs.Stage.{IsPhaseOf}
+use Rattle.rt_model.specs.CallKinds.{IsPhaseOf}
 use Rattle.rt_model.specs.laws.Phases.{PhasesLaw}
 use Rattle.rt_model.specs.steps.Chain.{is_old, has_old_key, followed, is_on_path, path_before, goes_on, phase_of_walk}
 use Rattle.rt_model.proofs.Calling.{IsIn}
@@ -80,12 +80,15 @@ old-blocked task is = by_blocked task.blocked is
     by_blocked None is = cc
     by_blocked (Some at) is = refl
 
--- the phase that it leaves
-pub walked-phase : (thread : ThreadPart) (route : Route) (next : Option Phase) → (walked_thread thread route next).phase ≡ phase_of_walk route next
-walked-phase thread (Full path) None = refl
-walked-phase thread (Full path) (Some phase) = refl
-walked-phase thread (Short answer) None = refl
-walked-phase thread (Short answer) (Some phase) = refl
+-- the phase in which it goes on, and that of a full one, which isn't answered
+pub walked-on : (thread : ThreadPart) (route : Route) (next : Option Phase) (phase : Phase) → next ≡ Some phase → (walked_thread thread route next).phase ≡ phase
+walked-on thread route None phase is = cc
+walked-on thread (Full path) (Some p) phase is = cc
+walked-on thread (Short answer) (Some p) phase is = cc
+
+pub full-phase : (thread : ThreadPart) (path : List (ℕ × ℕ)) (next : Option Phase) → (walked_thread thread (Full path) next).phase ≡ phase_of_walk next
+full-phase thread path None = refl
+full-phase thread path (Some phase) = refl
 
 -- a walk stands in its task's call, and one that a setprio begins in that
 pub walk-fits : (s : State) (t : TaskId) (route : Route) (u : TaskId) → PhasesLaw s → WalksIn s t route u → IsPhaseOf (phases.Walk u route) (call_of (thread_part s t))

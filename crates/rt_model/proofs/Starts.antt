@@ -6,7 +6,7 @@ use Rattle.std.specs.Prelude.{slice_get, option_map, is_some, sum}
 use Rattle.std.proofs.lemmas.List.Elements.{All-nil, All-head, All-map, All-replicate}
 use Rattle.std.proofs.lemmas.List.Sums.{get_or-le-sum_by, sum-map, sum_by-le}
 use Rattle.std.proofs.lemmas.Option.{slice_get_cases, slice_get-map}
-use Rattle.rt_base.specs.Script.{Script, TaskLine, LockLine, all_calls, IsLockOf, IsMutex, IsSpin, HasReaders, IsReaderLock, IsScript, IsTaskOf, IsCallOf}
+use Rattle.rt_base.specs.Script.{Script, TaskLine, LockLine, all_calls, IsLockOf, IsMutex, IsSpin, HasReaders, IsReaderLock, IsScript, IsCallOf, IsLocal}
 use Rattle.rt_base.specs.declared.call.Call.{Call}
 use Rattle.rt_base.specs.declared.call.Call.TheVariants as calls
 use Rattle.rt_base.specs.declared.id.Cpu.{Cpu}
@@ -21,18 +21,18 @@ use Rattle.rt_model.specs.declared.phase.Phase.{Phase}
 use Rattle.rt_model.specs.declared.phase.Phase.TheVariants as phases
 use Rattle.rt_model.specs.declared.reader_cell.ReaderCell.{ReaderCell}
 use Rattle.rt_model.specs.declared.row.Row.{Row}
-use Rattle.rt_model.specs.Parts.{OwnerPart, TaskPart, ThreadPart, effective_of, call_of, hold_of, kind_named, has_readers}
+use Rattle.rt_model.specs.Parts.{OwnerPart, TaskPart, ThreadPart, cell, effective_of, call_of, hold_of, kind_named, has_readers}
 use Rattle.rt_model.specs.Rows.{top_waiter, top_key, task_of, queued_key}
 use Rattle.rt_model.specs.Choice.{present_lock}
 use Rattle.rt_model.specs.State.{start, free_lock, fresh_task, fresh_thread, no_readers, kinds_in, owner_part, reader_part, task_part, thread_part}
-use Rattle.rt_model.specs.Stage.{IsPlayed, IsPlayable, IsServed, HasReadersAt, IsForKind, IsStaged, IsPhaseOf}
+use Rattle.rt_model.specs.CallKinds.{IsServed, HasReadersAt, IsForKind, MovesWithin, OnEachCpu, CallsFit, IsPhaseOf}
 use Rattle.rt_model.specs.Path.{Link, links_to, Edge, IsCycle}
 use Rattle.rt_model.specs.laws.Shape.{calls_of, IsShaped, IsOf}
 use Rattle.rt_model.specs.laws.Rows.{IsQueue, RowsLaw, key_at}
 use Rattle.rt_model.specs.laws.KeptTops.{kept_of}
 use Rattle.rt_model.specs.laws.Owners.{owned_by, has_inner, is_passing, OwnersLaw}
 use Rattle.rt_model.specs.laws.Readers.{is_closing, is_writing, of_owner, going, readers_by, all_readers, ReadersLaw}
-use Rattle.rt_model.specs.laws.Migration.{pins, pinned, MigrationLaw}
+use Rattle.rt_model.specs.laws.Migration.{pins, pinned, pins_calling, MigrationLaw}
 use Rattle.rt_model.specs.laws.States.{spins_at, has_slept, sleeps_spinning, waits_spinning, IsRested, StatesLaw}
 use Rattle.rt_model.specs.laws.WokenWriter.{WokenWriterLaw}
 use Rattle.rt_model.specs.laws.Queued.{QueuedLaw, awaited_in, asked_in}
@@ -40,11 +40,13 @@ use Rattle.rt_model.specs.laws.Walks.{IsWalkOf}
 use Rattle.rt_model.specs.laws.OwnPriorities.{OwnPrioritiesLaw}
 use Rattle.rt_model.specs.laws.Responsible.{ResponsibleLaw}
 use Rattle.rt_model.specs.laws.Lawful.{IsLawful}
+use Rattle.rt_model.specs.steps.Thread.{is_start}
+use Rattle.rt_model.proofs.Cells.{cell-there}
 use Rattle.rt_model.proofs.Holds.{count-none}
 use Rattle.rt_model.proofs.Inside.{outside, outside-owns}
-use Rattle.rt_model.proofs.Lists.{All-read, map-map, All-both, All-made, read-replicate}
+use Rattle.rt_model.proofs.Lists.{All-read, map-map, All-made, read-replicate}
 use Rattle.rt_model.proofs.Within.{HoldsFit}
-use Rattle.rt_model.proofs.laws.Migration.{unpinned}
+use Rattle.rt_model.proofs.laws.Migration.{unpinned, start-pins}
 use Rattle.rt_model.proofs.laws.Shape.{OwnerIn, RowsIn, KeptFits, KindsFit, AreServed, AreFit, KnowsKinds}
 
 -- ---- the script
@@ -53,38 +55,46 @@ use Rattle.rt_model.proofs.laws.Shape.{OwnerIn, RowsIn, KeptFits, KindsFit, AreS
 lock_within : (script : Script) (fits : LockLine → Type 0) (l : LockId) → IsLockOf script fits l → l.0 < length script.locks
 lock_within script fits l is = elim (slice_get_cases script.locks l.0).1 [ inl here ↦ here.1 | inr past ↦ absurd (rw past.1 at is) ]
 
--- a call of a script that is played is served
-served_in : (script : Script) (call : Call) → IsCallOf script call → IsPlayed call → IsServed (length script.tasks) (length script.locks) call
-served_in script (calls.Lock l) is played = lock_within script IsMutex l is
-served_in script (calls.LockInt l) is played = lock_within script IsMutex l is
-served_in script (calls.TryLock l) is played = lock_within script IsMutex l is
-served_in script (calls.Unlock l) is played = lock_within script IsMutex l is
-served_in script (calls.Spin l) is played = lock_within script IsSpin l is
-served_in script (calls.TrySpin l) is played = lock_within script IsSpin l is
-served_in script (calls.Unspin l) is played = lock_within script IsSpin l is
-served_in script (calls.Read l) is played = lock_within script IsReaderLock l is
-served_in script (calls.TryRead l) is played = lock_within script IsReaderLock l is
-served_in script (calls.Unread l) is played = lock_within script IsReaderLock l is
-served_in script (calls.Write l) is played = lock_within script IsReaderLock l is
-served_in script (calls.TryWrite l) is played = lock_within script IsReaderLock l is
-served_in script (calls.Unwrite l) is played = lock_within script IsReaderLock l is
-served_in script (calls.Downgrade l) is played = lock_within script IsReaderLock l is
-served_in script (calls.State state) is played = is
-served_in script calls.Schedule is played = is
-served_in script (calls.Wake t) is played = is
-served_in script (calls.Signal t) is played = is
-served_in script (calls.SetPrio t prio) is played = is
-served_in script _ is played = absurd played
+-- a call of a script is served on each of the script's processors
+served_in : (script : Script) → IsScript script → (call : Call) → IsCallOf script call → OnEachCpu script.cpus (IsServed (length script.tasks) (length script.locks)) call
+served_in script valid (calls.Lock l) is cpu on = lock_within script IsMutex l is
+served_in script valid (calls.LockInt l) is cpu on = lock_within script IsMutex l is
+served_in script valid (calls.TryLock l) is cpu on = lock_within script IsMutex l is
+served_in script valid (calls.Unlock l) is cpu on = lock_within script IsMutex l is
+served_in script valid (calls.Spin l) is cpu on = lock_within script IsSpin l is
+served_in script valid (calls.TrySpin l) is cpu on = lock_within script IsSpin l is
+served_in script valid (calls.Unspin l) is cpu on = lock_within script IsSpin l is
+served_in script valid (calls.Read l) is cpu on = lock_within script IsReaderLock l is
+served_in script valid (calls.TryRead l) is cpu on = lock_within script IsReaderLock l is
+served_in script valid (calls.Unread l) is cpu on = lock_within script IsReaderLock l is
+served_in script valid (calls.Write l) is cpu on = lock_within script IsReaderLock l is
+served_in script valid (calls.TryWrite l) is cpu on = lock_within script IsReaderLock l is
+served_in script valid (calls.Unwrite l) is cpu on = lock_within script IsReaderLock l is
+served_in script valid (calls.Downgrade l) is cpu on = lock_within script IsReaderLock l is
+served_in script valid (calls.Local l) is cpu on = (cell-there script valid l cpu is on).within
+served_in script valid (calls.Unlocal l) is cpu on = (cell-there script valid l cpu is on).within
+served_in script valid (calls.State state) is cpu on = is
+served_in script valid calls.Schedule is cpu on = is
+served_in script valid (calls.Wake t) is cpu on = is
+served_in script valid (calls.Signal t) is cpu on = is
+served_in script valid (calls.SetPrio t prio) is cpu on = is
+served_in script valid (calls.Move to) is cpu on = tt
 
--- what holds of the calls of a script that is played, of each task
-each_call : (script : Script) (P : Call → Type 0) → ((call : Call) → IsCallOf script call → IsPlayed call → P call) → IsScript script → IsPlayable script → All (λ (line : TaskLine). All P line.calls) script.tasks
-each_call script P holds valid playable =
-    All-both (IsTaskOf script) (λ (line : TaskLine). All IsPlayed line.calls) (λ (line : TaskLine). All P line.calls)
-    (λ line task all. All-both (IsCallOf script) IsPlayed P holds line.calls task.calls all) script.tasks valid.each_task playable.calls
+-- and a `move` is to one of them
+pub moves_in : (script : Script) (call : Call) → IsCallOf script call → MovesWithin script.cpus call
+moves_in script (calls.Move to) is = is
+moves_in script _ is = tt
+
+-- what holds of each call of a script holds of those of each task
+each_call : (script : Script) (P : Call → Type 0) → ((call : Call) → IsCallOf script call → P call) → IsScript script → All (λ (line : TaskLine). All P line.calls) script.tasks
+each_call script P holds valid = λ i d lt j c less. holds _ ((valid.each_task i d lt).calls j c less)
 
 -- the calls of each task are served
-pub served_calls : (script : Script) → IsScript script → IsPlayable script → All (λ (line : TaskLine). All (IsServed (length script.tasks) (length script.locks)) line.calls) script.tasks
-served_calls script valid playable = each_call script (IsServed (length script.tasks) (length script.locks)) (served_in script) valid playable
+pub served_calls : (script : Script) → IsScript script → All (λ (line : TaskLine). All (OnEachCpu script.cpus (IsServed (length script.tasks) (length script.locks))) line.calls) script.tasks
+served_calls script valid = each_call script (OnEachCpu script.cpus (IsServed (length script.tasks) (length script.locks))) (served_in script valid) valid
+
+pub moving_calls : (script : Script) → IsScript script → All (λ (line : TaskLine). All (MovesWithin script.cpus) line.calls) script.tasks
+moving_calls script valid = each_call script (MovesWithin script.cpus) (moves_in script) valid
 
 -- the kind of a lock that a call of a script names is that of its line
 line_within : (script : Script) (fits : LockLine → Type 0) (l : LockId) → IsLockOf script fits l → (line : LockLine) × (slice_get (kinds_in script) l.0 ≡ Some line.kind) × fits line
@@ -106,29 +116,36 @@ readers_kind _ is = absurd is
 readers_within : (script : Script) (l : LockId) → IsLockOf script IsReaderLock l → HasReadersAt (kinds_in script) l.0
 readers_within script l is = let line = line_within script IsReaderLock l is in ap (option_map has_readers) line.1 ∙ ap Some (readers_kind line.0.kind line.2)
 
+cell_kind : (script : Script) → IsScript script → (l : LockId) (cpu : Cpu) → IsLockOf script IsLocal l → cpu.0 < script.cpus → slice_get (kinds_in script) (cell l cpu).0 ≡ Some kinds.Local
+cell_kind script valid l cpu is on =
+    let there = cell-there script valid l cpu is on in
+    slice_get-map (λ (line : LockLine). line.kind) script.locks (cell l cpu).0 ∙ (ap (option_map (λ (line : LockLine). line.kind)) there.at ∙ ap Some there.kind)
+
 -- each call is one that its lock's kind has
-fit_in : (script : Script) (call : Call) → IsCallOf script call → IsPlayed call → IsForKind (kinds_in script) call
-fit_in script (calls.Lock l) is played = kind_within script kinds.Mutex l is
-fit_in script (calls.LockInt l) is played = kind_within script kinds.Mutex l is
-fit_in script (calls.TryLock l) is played = kind_within script kinds.Mutex l is
-fit_in script (calls.Unlock l) is played = kind_within script kinds.Mutex l is
-fit_in script (calls.Spin l) is played = kind_within script kinds.Spin l is
-fit_in script (calls.TrySpin l) is played = kind_within script kinds.Spin l is
-fit_in script (calls.Unspin l) is played = kind_within script kinds.Spin l is
-fit_in script (calls.Read l) is played = readers_within script l is
-fit_in script (calls.TryRead l) is played = readers_within script l is
-fit_in script (calls.Unread l) is played = readers_within script l is
-fit_in script (calls.Write l) is played = readers_within script l is
-fit_in script (calls.TryWrite l) is played = readers_within script l is
-fit_in script (calls.Unwrite l) is played = readers_within script l is
-fit_in script (calls.Downgrade l) is played = readers_within script l is
-fit_in script _ is played = tt
+fit_in : (script : Script) → IsScript script → (call : Call) → IsCallOf script call → OnEachCpu script.cpus (IsForKind (kinds_in script)) call
+fit_in script valid (calls.Lock l) is cpu on = kind_within script kinds.Mutex l is
+fit_in script valid (calls.LockInt l) is cpu on = kind_within script kinds.Mutex l is
+fit_in script valid (calls.TryLock l) is cpu on = kind_within script kinds.Mutex l is
+fit_in script valid (calls.Unlock l) is cpu on = kind_within script kinds.Mutex l is
+fit_in script valid (calls.Spin l) is cpu on = kind_within script kinds.Spin l is
+fit_in script valid (calls.TrySpin l) is cpu on = kind_within script kinds.Spin l is
+fit_in script valid (calls.Unspin l) is cpu on = kind_within script kinds.Spin l is
+fit_in script valid (calls.Read l) is cpu on = readers_within script l is
+fit_in script valid (calls.TryRead l) is cpu on = readers_within script l is
+fit_in script valid (calls.Unread l) is cpu on = readers_within script l is
+fit_in script valid (calls.Write l) is cpu on = readers_within script l is
+fit_in script valid (calls.TryWrite l) is cpu on = readers_within script l is
+fit_in script valid (calls.Unwrite l) is cpu on = readers_within script l is
+fit_in script valid (calls.Downgrade l) is cpu on = readers_within script l is
+fit_in script valid (calls.Local l) is cpu on = cell_kind script valid l cpu is on
+fit_in script valid (calls.Unlocal l) is cpu on = cell_kind script valid l cpu is on
+fit_in script valid _ is cpu on = tt
 
 -- a task makes no more calls than all tasks together
 pub calls_within : (script : Script) → All (λ (line : TaskLine). length line.calls ≤ all_calls script) script.tasks
 calls_within script = λ i d lt. rw (fold-map ◌+◌ (λ (line : TaskLine). length line.calls) 0 script.tasks) (get_or-le-sum_by (λ (line : TaskLine). length line.calls) script.tasks i d lt)
 
--- ---- shape and stage
+-- ---- shape and calls
 
 -- the start state is one of the script
 pub IsOf-start : (script : Script) → IsOf script (start script)
@@ -165,16 +182,20 @@ IsShaped-start script valid =
       rows = All-replicate (RowsIn (length (start script).threads)) n free_lock (All-nil (λ (row : Row). row.who < length (start script).threads));
     }
 
--- it goes as far as the stage goes
-pub IsStaged-start : (script : Script) → IsScript script → IsPlayable script → IsStaged (start script)
-IsStaged-start script valid playable =
+-- its calls fit
+pub CallsFit-start : (script : Script) → IsScript script → CallsFit (start script)
+CallsFit-start script valid =
     let n = length script.locks in
+    let cpus = script.cpus in
     let fresh : TaskLine → ThreadPart = λ line. fresh_thread (kinds_in script) line.calls line.cpu in
     let locks : length (start script).locks ≡ n = length-replicate n free_lock in
     let threads : length (start script).threads ≡ length script.tasks = length-map script.tasks fresh in
     record {
-      served = subst (λ (m : ℕ). All (AreServed m (length (start script).locks)) (start script).threads) (sym threads) (rw locks (All-map (AreServed (length script.tasks) n) fresh script.tasks (served_calls script valid playable)));
-      fit = All-map AreFit fresh script.tasks (each_call script (IsForKind (kinds_in script)) (fit_in script) valid playable);
+      cpus = cpus;
+      on = All-map (λ (thread : ThreadPart). thread.cpu.0 < cpus) fresh script.tasks (λ i d lt. (valid.each_task i d lt).cpu);
+      moves = All-map (λ (thread : ThreadPart). All (MovesWithin cpus) thread.calls) fresh script.tasks (moving_calls script valid);
+      served = subst (λ (m : ℕ). All (AreServed cpus m (length (start script).locks)) (start script).threads) (sym threads) (rw locks (All-map (AreServed cpus (length script.tasks) n) fresh script.tasks (served_calls script valid)));
+      fit = All-map (AreFit cpus) fresh script.tasks (each_call script (OnEachCpu cpus (IsForKind (kinds_in script))) (fit_in script valid) valid);
     }
 
 -- ---- the laws of the start state
@@ -259,8 +280,10 @@ module _ (script : Script) where
   -- what is held pins nothing
   MigrationLaw-start : MigrationLaw (start script)
   MigrationLaw-start t =
-      each_thread (λ thread. thread.migration ≡ pinned thread) t
-      (λ kinds cs cpu. sym (count-none pins kinds (length kinds) (record { owns = false; reads = 0 }) unpinned))
+      each_thread (λ thread. thread.migration ≡ pinned thread + pins_calling (call_of thread) (is_start thread.phase)) t
+      (λ kinds cs cpu.
+      let none = count-none pins kinds (length kinds) (record { owns = false; reads = 0 }) unpinned in
+      let still = start-pins (call_of (fresh_thread kinds cs cpu)) in omega arith)
 
   RowsLaw-start : RowsLaw (start script) 0
   RowsLaw-start = record {
@@ -297,10 +320,10 @@ module _ (script : Script) where
   responsible-start cycle is = absurd (no_cycle cycle is)
 
 -- the start state is lawful
-pub IsLawful-start : (script : Script) → IsScript script → IsPlayable script → IsLawful (start script) 0
-IsLawful-start script valid playable = record {
+pub IsLawful-start : (script : Script) → IsScript script → IsLawful (start script) 0
+IsLawful-start script valid = record {
   shape = IsShaped-start script valid;
-  stage = IsStaged-start script valid playable;
+  calls = CallsFit-start script valid;
   phases = λ t. each_thread script (λ thread. IsPhaseOf thread.phase (call_of thread)) t (λ kinds cs cpu. tt);
   rows = RowsLaw-start script;
   kept = λ l t. each_task script (λ task. kept_of task l ≡ None) t (λ n own. read-replicate n l.0 None) ∙ sym (ap (λ (lock : OwnerPart). cond (owned_by lock.owner t) (top_key lock.rows) None) (lock-start script l));

@@ -319,12 +319,12 @@ wait-up t (Some l) None blocked = refl
 wait-up t (Some l) (Some o) true = refl
 wait-up t (Some l) (Some o) false = refl
 
-ended-up : (route : Route) → has_slept (phase_of_walk route None) ≡ false
+ended-up : (route : Route) → has_slept (phase_of_walk None) ≡ false
 ended-up (Full path) = refl
 ended-up (Short answer) = refl
 
-walk-up : (t : TaskId) (route onward : Route) (owner : Option TaskId) (task : TaskPart) → has_slept (phase_of_walk route (goes_on t onward owner task)) ≡ false
-walk-up t route onward owner task = goes_on-holds (λ next. has_slept (phase_of_walk route next) ≡ false) t onward owner task (ended-up route) (λ path is own blocked. refl) (λ o on some stands. refl)
+walk-up : (t : TaskId) (route onward : Route) (owner : Option TaskId) (task : TaskPart) → has_slept (phase_of_walk (goes_on t onward owner task)) ≡ false
+walk-up t route onward owner task = goes_on-holds (λ next. has_slept (phase_of_walk next) ≡ false) t onward owner task (ended-up route) (λ path is own blocked. refl) (λ o on some stands. refl)
 
 link-up : (t : TaskId) (l : Option LockId) (owner : Option TaskId) (task : TaskPart) (phase : Phase) → has_slept phase ≡ false → has_slept (phase_after_link t l owner task phase) ≡ false
 link-up t None owner task phase up = up

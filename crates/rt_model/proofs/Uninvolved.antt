@@ -54,7 +54,7 @@ same-first _ x y state signal = refl
 
 same-in : (phase : Phase) (thread : ThreadPart) (x y : TaskPart) (call : Call) → y.state ≡ x.state → y.signal ≡ x.signal → can_in phase thread y call ≡ can_in phase thread x call
 same-in phases.Start thread x y call state signal = λ i. is_some (own_answer thread call) || same-first call x y state signal i
-same-in phase thread x y call state signal = same-goes_on phase thread x y (called_lock thread.cpu call) state signal
+same-in phase thread x y call state signal = same-goes_on phase thread x y (called_lock call) state signal
 
 same-at : (thread : ThreadPart) (x y : TaskPart) (call : Option Call) → y.state ≡ x.state → y.signal ≡ x.signal → can_at thread y call ≡ can_at thread x call
 same-at thread x y None state signal = refl

@@ -15,7 +15,7 @@ use Rattle.rt_model.specs.Parts.{ThreadPart, call_of}
 use Rattle.rt_model.specs.Rows.{queued_key}
 use Rattle.rt_model.specs.State.{State, owner_part, task_part, thread_part}
 use Rattle.rt_model.specs.Choice.{called_lock, present_lock}
-use Rattle.rt_model.specs.Stage.{IsServed, IsPhaseOf, IsStaged}
+use Rattle.rt_model.specs.CallKinds.{IsServed, IsPhaseOf, CallsFit}
 use Rattle.rt_model.specs.laws.Lawful.{IsLawful}
 use Rattle.rt_model.specs.laws.Queued.{awaited_in, asked_in, QueuedLaw}
 use Rattle.rt_model.specs.laws.Rows.{key_at}
@@ -41,17 +41,17 @@ key_elsewhere (Some at) l m is ne = let same : at.0 ≡ l = cc in subst (λ (k :
 
 module _ (s : State) (made : ℕ) (t : TaskId) (lawful : IsLawful s made) where
   -- a task is blocked on what it waits for in its phase
-  pub awaited : (phase : Phase) (call : Call) → IsIn s t phase call → blocking (task_part s t).blocked ≡ awaited_in phase (called_lock (thread_part s t).cpu call)
+  pub awaited : (phase : Phase) (call : Call) → IsIn s t phase call → blocking (task_part s t).blocked ≡ awaited_in phase (called_lock call)
   awaited phase call at =
-      subst (λ (p : Phase). blocking (task_part s t).blocked ≡ awaited_in p (called_lock (thread_part s t).cpu call)) at.phased
-      (subst (λ (c : Option Call). blocking (task_part s t).blocked ≡ awaited_in (thread_part s t).phase (option_and_then (called_lock (thread_part s t).cpu) c)) at.calling
+      subst (λ (p : Phase). blocking (task_part s t).blocked ≡ awaited_in p (called_lock call)) at.phased
+      (subst (λ (c : Option Call). blocking (task_part s t).blocked ≡ awaited_in (thread_part s t).phase (option_and_then called_lock c)) at.calling
       (lawful.queued.blocked t))
 
   pub asks-awaited : (phase : Phase) (l : LockId) → Asks s t phase l → blocking (task_part s t).blocked ≡ awaited_in phase (Some l)
-  asks-awaited phase l is = awaited phase is.call is.at ∙ ap (awaited_in phase) (waits-called (thread_part s t).cpu is.call l is.waits_for)
+  asks-awaited phase l is = awaited phase is.call is.at ∙ ap (awaited_in phase) (waits-called is.call l is.waits_for)
 
   -- in a phase in which it waits for no lock it is blocked on nothing
-  pub idle-blocked : (phase : Phase) (call : Call) → IsIn s t phase call → awaited_in phase (called_lock (thread_part s t).cpu call) ≡ None → (task_part s t).blocked ≡ None
+  pub idle-blocked : (phase : Phase) (call : Call) → IsIn s t phase call → awaited_in phase (called_lock call) ≡ None → (task_part s t).blocked ≡ None
   idle-blocked phase call at idle = not_blocking (task_part s t).blocked (awaited phase call at ∙ idle)
 
   -- so before a call's first event and with the bit set
@@ -108,16 +108,16 @@ pub record Awaits (s : State) (u : TaskId) (l : LockId) : Type 0 where
   pub lock : l.0 < length s.locks
 
 -- the phase and the call in which a lock is awaited
-awaits : (thread : ThreadPart) (l : LockId) (phase : Phase) (call : Option Call) → IsPhaseOf phase call → awaited_in phase (option_and_then (called_lock thread.cpu) call) ≡ Some l
+awaits : (thread : ThreadPart) (l : LockId) (phase : Phase) (call : Option Call) → IsPhaseOf phase call → awaited_in phase (option_and_then called_lock call) ≡ Some l
     → QueuedIn phase × (c : Call) × WaitsFor c l × (call ≡ Some c)
 awaits thread l phases.Start call fits is = cc
 awaits thread l phases.Slow call fits is = cc
-awaits thread l phases.Wait (Some c) fits is = (in_wait refl, c, waits-about thread.cpu c l fits is, refl)
+awaits thread l phases.Wait (Some c) fits is = (in_wait refl, c, waits-about c l fits is, refl)
 awaits thread l phases.Wait None fits is = absurd fits
-awaits thread l (phases.Walk cursor (Full path)) (Some c) fits is = (in_walk cursor path refl, c, waits-about thread.cpu c l fits is, refl)
+awaits thread l (phases.Walk cursor (Full path)) (Some c) fits is = (in_walk cursor path refl, c, waits-about c l fits is, refl)
 awaits thread l (phases.Walk cursor (Full path)) None fits is = absurd fits
 awaits thread l (phases.Walk cursor (Short answer)) call fits is = cc
-awaits thread l (phases.Confirm path) (Some c) fits is = (in_confirm path refl, c, waits-about thread.cpu c l fits is, refl)
+awaits thread l (phases.Confirm path) (Some c) fits is = (in_confirm path refl, c, waits-about c l fits is, refl)
 awaits thread l (phases.Confirm path) None fits is = absurd fits
 awaits thread l phases.Inner call fits is = cc
 awaits thread l phases.ReadIn call fits is = cc
@@ -128,7 +128,7 @@ awaits thread l phases.Release call fits is = cc
 awaits thread l phases.WakeWriter call fits is = cc
 
 -- a blocked task waits for the lock on which it is blocked
-pub WaitsFor-blocked : (s : State) (u : TaskId) (at : LockId × ℕ) → IsStaged s → PhasesLaw s → QueuedLaw s → (task_part s u).blocked ≡ Some at → Awaits s u at.0
+pub WaitsFor-blocked : (s : State) (u : TaskId) (at : LockId × ℕ) → CallsFit s → PhasesLaw s → QueuedLaw s → (task_part s u).blocked ≡ Some at → Awaits s u at.0
 WaitsFor-blocked s u at staged phased queued is =
     let found = awaits (thread_part s u) at.0 (thread_part s u).phase (call_of (thread_part s u)) (phased u) (sym (queued.blocked u) ∙ ap blocking is) in
     let Within : Call → Type 0 = λ c. IsServed (length s.threads) (length s.locks) c → at.0.0 < length s.locks in
@@ -137,7 +137,7 @@ WaitsFor-blocked s u at staged phased queued is =
       call = found.1;
       waits_for = found.2;
       calling = found.3;
-      lock = waits-holds Within found.1 at.0 found.2 (λ served. served) (λ served. served) (λ served. served) (λ served. served) (λ served. served) (served_call s u found.1 staged found.3);
+      lock = waits-holds Within found.1 at.0 found.2 (λ served. served) (λ served. served) (λ served. served) (λ served. served) (λ served. served) (λ served. served) (served_call s u found.1 staged found.3);
     }
 
 -- and doesn't own that lock
@@ -207,6 +207,6 @@ pub record IsLink (s : State) (u : TaskId) (l : LockId) : Type 0 where
 pub walk-link : (s : State) (made : ℕ) (t : TaskId) (route : Route) (u : TaskId) (l : LockId) (key : ℕ) (e : Event) → IsLawful s made → IsWalk s t route u l key e → IsLink s u l
 walk-link s made t route u l key e lawful is = record {
   cursor = cursor-there s made t route u lawful is.how;
-  lock = (WaitsFor-blocked s u (l, key) lawful.stage lawful.phases lawful.queued is.blocked).lock;
+  lock = (WaitsFor-blocked s u (l, key) lawful.calls lawful.phases lawful.queued is.blocked).lock;
   unowned = blocked-unowned s u (l, key) lawful.queued is.blocked;
 }

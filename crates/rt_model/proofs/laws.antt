@@ -24,5 +24,6 @@ pub mod Flat
 pub mod Tracked
 pub mod Wakeups
 pub mod Calls
+pub mod Cells
 pub mod Rest
 pub mod Sound

@@ -14,11 +14,9 @@ use Rattle.rt_model.specs.steps.Task.{runs, passes}
 use Rattle.rt_model.specs.events.Own.{own_answer}
 use Rattle.rt_model.specs.events.Wait.{is_awake}
 
--- a call that isn't answered by its thread alone has a first event, but where it gives the processor up and its task may not go on;
--- so far not those of local locks and `move`
+-- a call that its thread doesn't answer at once, as it does every `move`, has a first event, but where it gives the processor up
+-- and its task may not go on
 abbrev pub has_first : Call → TaskPart → Bool
-has_first (calls.Local l) task = false
-has_first (calls.Unlocal l) task = false
 has_first (calls.Move cpu) task = false
 has_first calls.Schedule task = passes task
 has_first _ task = true
@@ -41,7 +39,7 @@ can_go_on _ thread task lock = false
 
 abbrev pub can_in : Phase → ThreadPart → TaskPart → Call → Bool
 can_in phases.Start thread task call = is_some (own_answer thread call) || has_first call task
-can_in phase thread task call = can_go_on phase thread task (called_lock thread.cpu call)
+can_in phase thread task call = can_go_on phase thread task (called_lock call)
 
 abbrev pub can_at : ThreadPart → TaskPart → Option Call → Bool
 can_at thread task None = false

@@ -1,8 +1,7 @@
 -- Words of which the choice of an event is made.
-use Rattle.std.specs.Prelude.{ℕ, ◌+◌, Bool, false, [], Option, Some, None, option_and_then, nat_eq, if◌then◌else◌}
+use Rattle.std.specs.Prelude.{ℕ, Bool, false, [], Option, Some, None, option_and_then, nat_eq, if◌then◌else◌}
 use Rattle.rt_base.specs.declared.call.Call.{Call}
 use Rattle.rt_base.specs.declared.call.Call.TheVariants as calls
-use Rattle.rt_base.specs.declared.id.Cpu.{Cpu}
 use Rattle.rt_base.specs.declared.id.LockId.{LockId}
 use Rattle.rt_base.specs.declared.id.TaskId.{TaskId}
 use Rattle.rt_model.specs.declared.event.Event.{Event}
@@ -22,29 +21,29 @@ abbrev pub boost_at : Option TaskId → ℕ → ℕ → Option (TaskId × ℕ)
 boost_at None before after = None
 boost_at (Some t) before after = boost_of t before after
 
--- the lock that a call is about; of a local lock the cell of the processor
-abbrev pub called_lock : Cpu → Call → Option LockId
-called_lock cpu (calls.Lock l) = Some l
-called_lock cpu (calls.LockInt l) = Some l
-called_lock cpu (calls.TryLock l) = Some l
-called_lock cpu (calls.Unlock l) = Some l
-called_lock cpu (calls.Spin l) = Some l
-called_lock cpu (calls.TrySpin l) = Some l
-called_lock cpu (calls.Unspin l) = Some l
-called_lock cpu (calls.Read l) = Some l
-called_lock cpu (calls.TryRead l) = Some l
-called_lock cpu (calls.Unread l) = Some l
-called_lock cpu (calls.Write l) = Some l
-called_lock cpu (calls.TryWrite l) = Some l
-called_lock cpu (calls.Unwrite l) = Some l
-called_lock cpu (calls.Downgrade l) = Some l
-called_lock cpu (calls.Local l) = Some (record { 0 = l.0 + cpu.0 })
-called_lock cpu (calls.Unlocal l) = Some (record { 0 = l.0 + cpu.0 })
-called_lock cpu _ = None
+-- the lock that a call is about, where a local lock is named by a processor's cell, as a call that is made names it
+abbrev pub called_lock : Call → Option LockId
+called_lock (calls.Lock l) = Some l
+called_lock (calls.LockInt l) = Some l
+called_lock (calls.TryLock l) = Some l
+called_lock (calls.Unlock l) = Some l
+called_lock (calls.Spin l) = Some l
+called_lock (calls.TrySpin l) = Some l
+called_lock (calls.Unspin l) = Some l
+called_lock (calls.Read l) = Some l
+called_lock (calls.TryRead l) = Some l
+called_lock (calls.Unread l) = Some l
+called_lock (calls.Write l) = Some l
+called_lock (calls.TryWrite l) = Some l
+called_lock (calls.Unwrite l) = Some l
+called_lock (calls.Downgrade l) = Some l
+called_lock (calls.Local l) = Some l
+called_lock (calls.Unlocal l) = Some l
+called_lock _ = None
 
 -- the lock that a thread's present call is about
 abbrev pub present_lock : ThreadPart → Option LockId
-present_lock thread = option_and_then (called_lock thread.cpu) (call_of thread)
+present_lock thread = option_and_then called_lock (call_of thread)
 
 -- what may be named is this lock
 abbrev pub is_on : Option LockId → LockId → Bool

@@ -15,10 +15,10 @@ pub mod StateAfter
 pub mod Footprint
 pub mod NextEvent
 pub mod CanMove
--- runs, the order, the stage, and the laws
+-- runs, the order, which calls and phases there are, and the laws
 pub mod Run
 pub mod Order
-pub mod Stage
+pub mod CallKinds
 pub mod laws
 pub use Rattle.rt_base.specs.Script
 pub use Rattle.rt_base.specs.Kind

@@ -20,7 +20,7 @@ use Rattle.rt_model.specs.events.Readers.{rin_event, read_event, tryread_event, 
 use Rattle.rt_model.specs.events.Wakeups.{state_event, schedule_event, wake_event, signal_event, setprio_event}
 use Rattle.rt_model.specs.events.Own.{own_answer, own_event}
 
--- a call's first event, where it isn't answered by the thread alone; so far for all calls but those of local locks and `move`
+-- a call's first event, where the thread doesn't answer it at once, as it does every `move`
 abbrev pub first_event : Shared → TaskId → ThreadPart → Call → Option Event
 first_event sh t thread (calls.Lock l) = Some (acquire_event (call_of thread) t l (lock_in sh l))
 first_event sh t thread (calls.LockInt l) = Some (acquire_event (call_of thread) t l (lock_in sh l))
@@ -36,12 +36,14 @@ first_event sh t thread (calls.Write l) = Some (acquire_event (call_of thread) t
 first_event sh t thread (calls.TryWrite l) = Some (try_event (call_of thread) t l (kind_of thread l) (lock_in sh l) (task_in sh t))
 first_event sh t thread (calls.Unwrite l) = Some (wopen_event t l 0)
 first_event sh t thread (calls.Downgrade l) = Some (wopen_event t l 1)
+first_event sh t thread (calls.Local l) = Some (acquire_event (call_of thread) t l (lock_in sh l))
+first_event sh t thread (calls.Unlocal l) = Some (release_event (call_of thread) t l (lock_in sh l) (task_in sh t))
 first_event sh t thread (calls.State state) = Some (state_event t state)
 first_event sh t thread calls.Schedule = schedule_event t (task_in sh t)
 first_event sh t thread (calls.Wake u) = Some (wake_event t u (task_in sh u))
 first_event sh t thread (calls.Signal u) = Some (signal_event t u (task_in sh u))
 first_event sh t thread (calls.SetPrio u prio) = Some (setprio_event t u prio (task_in sh u))
-first_event sh t thread _ = None
+first_event sh t thread (calls.Move cpu) = None
 
 -- an answer that the thread's own part gives goes before the call's first event
 abbrev pub answered_or : Option Event → TaskId → Option LockId → Option Reply → Option Event
@@ -65,8 +67,8 @@ later_event _ sh t thread lock = None
 
 -- the event of a call in a phase
 abbrev pub event_in : Phase → Shared → TaskId → ThreadPart → Call → Option Event
-event_in phases.Start sh t thread call = answered_or (first_event sh t thread call) t (called_lock thread.cpu call) (own_answer thread call)
-event_in phase sh t thread call = later_event phase sh t thread (called_lock thread.cpu call)
+event_in phases.Start sh t thread call = answered_or (first_event sh t thread call) t (called_lock call) (own_answer thread call)
+event_in phase sh t thread call = later_event phase sh t thread (called_lock call)
 
 -- the event of the call that a thread is at
 abbrev pub event_of : Shared → TaskId → ThreadPart → Option Call → Option Event

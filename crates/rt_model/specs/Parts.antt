@@ -1,6 +1,7 @@
 -- The objects of the machine: what a lock, a task and a thread are.
-use Rattle.std.specs.Prelude.{ℕ, ◌+◌, Bool, true, false, List, [], ◌∷◌, min, Option, Some, None, unwrap_or, slice_get}
+use Rattle.std.specs.Prelude.{ℕ, ◌+◌, Bool, true, false, List, [], ◌∷◌, min, Option, Some, None, unwrap_or, option_map, slice_get}
 use Rattle.rt_base.specs.declared.call.Call.{Call}
+use Rattle.rt_base.specs.declared.call.Call.TheVariants as calls
 use Rattle.rt_base.specs.declared.id.LockId.{LockId}
 use Rattle.rt_base.specs.declared.id.TaskId.{TaskId}
 use Rattle.rt_base.specs.declared.id.Cpu.{Cpu}
@@ -28,7 +29,7 @@ pub record TaskPart : Type 0 where
   pub signal : Bool
 
 -- the private part of a thread: what it knows of the script, which are the kinds of all locks and its own calls, never
--- changes; holds are listed by lock
+-- changes; holds are listed by lock; where its migration count is above 0 it stays on its processor
 pub record ThreadPart : Type 0 where
   pub kinds : List Kind
   pub calls : List Call
@@ -53,9 +54,19 @@ keys_in (Some key ∷ kept) = key ∷ keys_in kept
 abbrev pub effective_of : TaskPart → ℕ
 effective_of task = least task.own (keys_in task.kept)
 
--- the call that a thread is at, where it isn't at the end of its calls
+-- a local lock has a cell for each processor, side by side, and is named by the cell of processor 0: the cell of a processor
+abbrev pub cell : LockId → Cpu → LockId
+cell base cpu = record { 0 = base.0 + cpu.0 }
+
+-- the call as it is made on a processor: what names a local lock is about the cell of that processor
+abbrev pub made_on : Cpu → Call → Call
+made_on cpu (calls.Local base) = calls.Local (cell base cpu)
+made_on cpu (calls.Unlocal base) = calls.Unlocal (cell base cpu)
+made_on cpu call = call
+
+-- the call that a thread is at, as it makes it on its processor, where it isn't at the end of its calls
 abbrev pub call_of : ThreadPart → Option Call
-call_of thread = slice_get thread.calls thread.answered
+call_of thread = option_map (made_on thread.cpu) (slice_get thread.calls thread.answered)
 
 -- what a thread holds of a lock
 abbrev pub hold_of : ThreadPart → LockId → Hold

@@ -5,6 +5,7 @@ pub mod Rows
 pub mod Owners
 pub mod Readers
 pub mod Migration
+pub mod Cells
 pub mod KeptTops
 pub mod Queued
 pub mod States

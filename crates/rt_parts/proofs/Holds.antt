@@ -7,10 +7,11 @@ use Rattle.std.proofs.lemmas.List.Elements.{All-replicate}
 use Rattle.rt_base.specs.Kind.{spins}
 use Rattle.rt_base.specs.declared.call.Call.{Call}
 use Rattle.rt_base.specs.declared.kind.Kind.{Kind}
+use Rattle.rt_base.specs.declared.id.Cpu.{Cpu}
 use Rattle.rt_base.specs.declared.id.LockId.{LockId}
-use Rattle.rt_base.specs.declared.limits.TheConstants.{MAX_CALLS, MAX_LOCKS, MAX_TASKS}
+use Rattle.rt_base.specs.declared.limits.TheConstants.{MAX_LOCKS, MAX_TASKS}
 use Rattle.rt_model.specs.declared.hold.Hold.{Hold}
-use Rattle.rt_model.specs.Stage.{IsServed}
+use Rattle.rt_model.specs.laws.Shape.{IsThread}
 use Rattle.rt_model.specs.Parts.{ThreadPart, hold_of}
 use Rattle.rt_model.specs.events.Own.{spinning_hold, spinning_holds}
 use Rattle.rt_parts.specs.Thread.{IsPrivate}
@@ -68,15 +69,14 @@ spinning-none (kind ∷ kinds) = omega (arith, none_of (spins kind), spinning-no
 
 -- a thread that has made no call, and holds nothing
 pub fresh-fits : (kinds : List Kind) (calls : List Call) (ks : List Kind) (cs : List Call) (holds : List Hold) → ks ≡ kinds → cs ≡ calls → holds ≡ replicate (length kinds) (record { owns = false; reads = 0 })
-    → length calls ≤ MAX_CALLS → length kinds ≤ MAX_LOCKS → All (IsServed MAX_TASKS (length kinds)) calls → IsPrivate ks cs 0 holds 0 0
-fresh-fits kinds calls ks cs holds is_kinds is_calls is_holds few few_locks served =
-    let fresh : IsPrivate kinds calls 0 (replicate (length kinds) (record { owns = false; reads = 0 })) 0 0 = record {
-      thread = record { within = omega arith; few = few; served = served };
+    → (cpu : Cpu) → length kinds ≤ MAX_LOCKS → IsThread calls 0 cpu MAX_TASKS (length kinds) → IsPrivate ks cs 0 holds 0 cpu
+fresh-fits kinds calls ks cs holds is_kinds is_calls is_holds cpu few_locks thread =
+    let fresh : IsPrivate kinds calls 0 (replicate (length kinds) (record { owns = false; reads = 0 })) 0 cpu = record {
+      thread = thread;
       few = few_locks;
       holds = length-replicate (length kinds) _;
       spinning = sym (spinning-none kinds);
       reads = All-replicate (λ (hold : Hold). hold.reads ≤ 0) (length kinds) _ (omega arith);
-      pinned = omega arith;
     } in
-    subst (λ (xs : List Kind). IsPrivate xs cs 0 holds 0 0) (sym is_kinds)
-    (subst (λ (xs : List Call). IsPrivate kinds xs 0 holds 0 0) (sym is_calls) (subst (λ (xs : List Hold). IsPrivate kinds calls 0 xs 0 0) (sym is_holds) fresh))
+    subst (λ (xs : List Kind). IsPrivate xs cs 0 holds 0 cpu) (sym is_kinds)
+    (subst (λ (xs : List Call). IsPrivate kinds xs 0 holds 0 cpu) (sym is_calls) (subst (λ (xs : List Hold). IsPrivate kinds calls 0 xs 0 cpu) (sym is_holds) fresh))

@@ -3,5 +3,6 @@ pub mod OwnerParts
 pub mod SharedSteps
 pub mod TwoCells
 pub mod Holds
+pub mod Pins
 pub mod Starting
 pub mod Linking

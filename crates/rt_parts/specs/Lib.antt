@@ -7,7 +7,7 @@ pub use Rattle.rt_base.specs.Kind
 pub use Rattle.rt_model.specs.Parts
 pub use Rattle.rt_model.specs.Rows
 pub use Rattle.rt_model.specs.State
-pub use Rattle.rt_model.specs.Stage
+pub use Rattle.rt_model.specs.CallKinds
 pub use Rattle.rt_model.specs.Choice
 pub use Rattle.rt_model.specs.steps
 pub use Rattle.rt_model.specs.events

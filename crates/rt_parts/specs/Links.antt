@@ -40,7 +40,7 @@ walk_to route (To t keep) = Some (Walk t route)
 
 -- what becomes of a phase by that
 abbrev pub phase_told : Next → Phase → Phase
-phase_told next (Walk cursor route) = phase_of_walk route (walk_to route next)
+phase_told next (Walk cursor route) = phase_of_walk (walk_to route next)
 phase_told next phase = phase
 
 -- the task among these

@@ -1,6 +1,5 @@
 ghost use Rattle.std.specs.Prelude.{◌≡◌, ◌<◌, ◌≤◌, length, IfOk, IfSome};
 ghost use Rattle.rt_base.specs.Script.{IsScript};
-ghost use Rattle.rt_model.specs.Stage.{IsPlayable};
 ghost use Rattle.rt_model.specs.State.{start, shared, lock_in, readers_in, task_in};
 
 mod links;
@@ -48,7 +47,6 @@ impl Model for Shared {
 impl Shared {
     /// Free locks and running tasks, as many as the script has. All room for rows is taken here.
     pub fn new(alloc: Global, script: &Script) -> Result<Shared, NoMemory>
-        requires { IsPlayable script.now }
         ensures start { IfOk result (λ parts. parts ≡ shared (start script.now)) }
         ensures valid { IsScript script.now }
     {

@@ -1,6 +1,5 @@
 // The lists that a core begins with.
 ghost use Rattle.std.specs.Prelude.{◌≡◌, replicate, IfOk};
-ghost use Rattle.rt_model.specs.Stage.{IsPlayable};
 ghost use Rattle.rt_model.specs.State.{start, kinds_in};
 ghost use Rattle.rt_parts.specs.Shared.{free_cell};
 
@@ -36,7 +35,6 @@ pub fn task_cells(alloc: Global, script: &Script) -> Result<Vec<TaskCell>, NoMem
 
 /// A thread that has made none of its calls for each task of the script.
 pub fn threads(alloc: Global, script: &Script) -> Result<Vec<Thread>, NoMemory>
-    requires { IsPlayable script.now }
     ensures { IfOk result (λ threads. threads.items ≡ (start script.now).threads) }
 {
     let kinds = kinds_in(alloc, script)?;

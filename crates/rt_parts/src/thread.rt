@@ -1,7 +1,8 @@
-ghost use Rattle.std.specs.Prelude.{◌≡◌, ◌≤◌, ◌<◌, length, IfOk, IfSome, All};
+ghost use Rattle.std.specs.Prelude.{◌≡◌, ◌≤◌, ◌<◌, length, IfOk, IfSome};
 ghost use Rattle.rt_model.specs.Parts.{call_of, kind_of};
 ghost use Rattle.rt_model.specs.State.{fresh_thread};
-ghost use Rattle.rt_model.specs.Stage.{IsServed};
+ghost use Rattle.rt_model.specs.CallKinds.{IsServed};
+ghost use Rattle.rt_model.specs.laws.Shape.{IsThread};
 ghost use Rattle.rt_model.specs.Choice.{called_lock};
 ghost use Rattle.rt_model.specs.events.Own.{is_held, spinning_holds};
 ghost use Rattle.rt_model.specs.steps.Task.{rest_of, sleep_of};
@@ -14,8 +15,9 @@ ghost use Rattle.rt_parts.specs.Steps.{with_phase};
 mod answers;
 mod walk;
 
-use rt_base::limits::{MAX_CALLS, MAX_LOCKS, MAX_TASKS};
+use rt_base::limits::{MAX_LOCKS, MAX_TASKS};
 use rt_base::{Call, Cpu, Kind, LockId, NoMemory, TaskState};
+use rt_local::made_on;
 use rt_model::{Hold, Phase};
 use std::alloc::Global;
 use std::marker::Model;
@@ -27,7 +29,8 @@ const NOTHING: Hold = Hold {
 };
 
 /// A thread's private part: what it knows of the script, which are the kinds of all locks and its own
-/// calls, how far it has come, and what it holds, with how many locks of a spinning kind that is of.
+/// calls, how far it has come, what it holds, with how many locks of a spinning kind that is of, its migration count, and
+/// its processor.
 #[derive(Drop)]
 pub struct Thread {
     kinds: Vec<Kind>,
@@ -51,15 +54,14 @@ impl Model for Thread {
     ghost use Rattle.std.specs.Prelude.{◌≤◌, length};
     ghost use Rattle.rt_parts.specs.Thread.{IsPrivate};
 
-    ghost invariant = { λ t. IsPrivate t.kinds.items t.calls.items t.answered t.holds.items t.spinning t.migration };
+    ghost invariant = { λ t. IsPrivate t.kinds.items t.calls.items t.answered t.holds.items t.spinning t.cpu };
 }
 
 impl Thread {
     /// A thread that has made none of its calls and holds nothing, where the locks are of these kinds.
     pub fn new(alloc: Global, kinds: &[Kind], calls: &[Call], cpu: Cpu) -> Result<Thread, NoMemory>
-        requires few { length calls.now ≤ MAX_CALLS }
         requires few_locks { length kinds.now ≤ MAX_LOCKS }
-        requires served { All (IsServed MAX_TASKS (length kinds.now)) calls.now }
+        requires calls { IsThread calls.now 0 cpu MAX_TASKS (length kinds.now) }
         ensures { IfOk result (λ thread. thread ≡ fresh_thread kinds.now calls.now cpu) }
     {
         let holds = vec![in alloc; NOTHING; kinds.len()]?;
@@ -75,12 +77,13 @@ impl Thread {
         })
     }
 
-    /// The call that the thread is at, and `None` at the end of its calls.
+    /// The call that the thread is at, as it makes it on its processor, and `None` at the end of its calls.
     pub fn call(&self) -> Option<Call>
         ensures call { result ≡ call_of self.now }
         ensures served { IfSome result (IsServed MAX_TASKS (length self.now.kinds)) }
     {
-        self.calls.get(self.answered as usize).copied()
+        let call = self.calls.get(self.answered as usize)?;
+        Some(made_on(self.cpu, *call))
     }
 
     /// Whether it is at the end of its calls.
@@ -143,7 +146,7 @@ impl Thread {
     /// The lock that a call is about.
     pub fn called_lock(&self, call: &Call) -> Option<LockId>
         requires { IsServed MAX_TASKS (length self.now.kinds) call.now }
-        ensures lock { result ≡ called_lock self.now.cpu call.now }
+        ensures lock { result ≡ called_lock call.now }
         ensures within { IfSome result (λ l. l.0 < length self.now.kinds) }
     {
         match call {
@@ -160,7 +163,9 @@ impl Thread {
             | Call::Write(l)
             | Call::TryWrite(l)
             | Call::Unwrite(l)
-            | Call::Downgrade(l) => Some(*l),
+            | Call::Downgrade(l)
+            | Call::Local(l)
+            | Call::Unlocal(l) => Some(*l),
             _ => None,
         }
     }

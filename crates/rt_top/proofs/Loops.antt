@@ -88,11 +88,10 @@ pub chosen_within : (script : Script) (s : State) (last : Option TaskId) (t : Ta
 chosen_within script s last t is chosen last_in = subst (λ (n : ℕ). t.0 < n) (IsOf-threads script s is) (chosen_below s last t chosen (subst (λ (n : ℕ). IfSome last (λ u. u.0 < n)) (sym (IsOf-threads script s is)) last_in))
 
 -- one of the turns that are left
-pub chosen-left : (turns turn : ℕ) (s : State) (last : Option TaskId) (e : Event) → turn < turns → chosen_task s last ≡ Some e.task → next_event s e.task ≡ Some e
-    → chosen (turns - turn) s last ≡ then_play (chosen (turns - (turn + 1))) s last e.task (Some e)
-chosen-left turns turn s last e lt is next =
+pub chosen-left : (turns turn : ℕ) (s : State) (last : Option TaskId) (t : TaskId) → turn < turns → chosen_task s last ≡ Some t → chosen (turns - turn) s last ≡ then_play (chosen (turns - (turn + 1))) s last t (next_event s t)
+chosen-left turns turn s last t lt is =
     let left : turns - turn ≡ suc (turns - (turn + 1)) = omega arith in
-    ap (λ (n : ℕ). chosen n s last) left ∙ (chosen-some (turns - (turn + 1)) s last e.task is ∙ ap (λ (o : Option Event). then_play (chosen (turns - (turn + 1))) s last e.task o) next)
+    ap (λ (n : ℕ). chosen n s last) left ∙ chosen-some (turns - (turn + 1)) s last t is
 
 -- all is made
 pub all_made : (core0 core : Made) (whole : Played) (count : ℕ) → Leads core0.state whole → core.state ≡ whole.state → core.made ≡ core0.made + count → count ≡ length whole.events → IsPartMade core0 core whole.events

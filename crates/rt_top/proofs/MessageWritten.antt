@@ -7,8 +7,8 @@ use Rattle.rt_script.specs.Grammar.{FaultAt, script_of}
 use Rattle.rt_top.specs.declared.options.Options.{Options}
 use Rattle.rt_top.specs.declared.status.Status.{Status}
 use Rattle.rt_top.specs.declared.status.Status.TheVariants as statuses
-use Rattle.rt_top.specs.Message.{bad_script_line, bad_script_fault, usage_line}
-use Rattle.rt_top.specs.Answer.{Answers, AnswersInput, Input, IsNotPlayed, IsTold, Output, AnswersBadScript}
+use Rattle.rt_top.specs.Message.{usage_line}
+use Rattle.rt_top.specs.Answer.{Answers, AnswersInput, Input, IsTold, Output, AnswersBadScript}
 
 -- a line that was written, or some prefix of it
 pub told : {T : Type 0} (result : Result T Failed) (line : List ℕ) (held_before held_after : Option (List ℕ)) (faults_before faults_after : ℕ)
@@ -18,16 +18,16 @@ told (Ok x) line held_before held_after faults_before faults_after writes = inl 
 told (Err e) line held_before held_after faults_before faults_after writes = inr (writes.cause, writes.part)
 
 -- an input that is refused for its fault
-pub refused : (options : Options) (status : Status) (input : List ℕ) (output : Output) (fault : FaultAt) → IsNotPlayed (script_of input) → fault ≡ bad_script_fault (script_of input) → AnswersBadScript status fault output → AnswersInput options status input output
-refused options statuses.BadScript input output fault not_played is told = (not_played, subst (λ (f : FaultAt). IsTold (bad_script_line f) output) is told)
-refused options statuses.NoMemory input output fault not_played is told = tt
-refused options statuses.Done input output fault not_played is told = absurd told
-refused options statuses.Usage input output fault not_played is told = absurd told
-refused options statuses.Stuck input output fault not_played is told = absurd told
-refused options statuses.Limit input output fault not_played is told = absurd told
-refused options statuses.ReadFault input output fault not_played is told = absurd told
-refused options statuses.WriteFault input output fault not_played is told = absurd told
-refused options statuses.TooLong input output fault not_played is told = absurd told
+pub refused : (options : Options) (status : Status) (input : List ℕ) (output : Output) (fault : FaultAt) → script_of input ≡ Err fault → AnswersBadScript status fault output → AnswersInput options status input output
+refused options statuses.BadScript input output fault is told = (fault, is, told)
+refused options statuses.NoMemory input output fault is told = tt
+refused options statuses.Done input output fault is told = absurd told
+refused options statuses.Usage input output fault is told = absurd told
+refused options statuses.Stuck input output fault is told = absurd told
+refused options statuses.Limit input output fault is told = absurd told
+refused options statuses.ReadFault input output fault is told = absurd told
+refused options statuses.WriteFault input output fault is told = absurd told
+refused options statuses.TooLong input output fault is told = absurd told
 
 -- words that aren't taken
 pub unaccepted : (o : Option Options) (input : Input) (output : Output) → is_some o ≡ false → IsTold usage_line output → Answers o statuses.Usage [] input output

@@ -5,7 +5,6 @@ use Rattle.rt_base.specs.declared.ended.Ended.TheVariants as ends
 use Rattle.rt_base.specs.Outside.{Rises, IsAtEnd, Appends, AppendsPrefix}
 use Rattle.rt_base.specs.Script.{Script, budget_of}
 use Rattle.rt_model.specs.State.{start}
-use Rattle.rt_model.specs.Stage.{IsPlayable}
 use Rattle.rt_model.specs.Run.{IsRun, after, ended_of}
 use Rattle.rt_model.specs.Order.{replayed}
 use Rattle.rt_model.specs.laws.Sound.{IsSound}
@@ -15,7 +14,7 @@ use Rattle.rt_top.specs.declared.options.Options.{Options}
 use Rattle.rt_top.specs.declared.status.Status.{Status}
 use Rattle.rt_top.specs.declared.status.Status.TheVariants as statuses
 use Rattle.rt_top.specs.declared.top.TheConstants.{MAX_BYTES}
-use Rattle.rt_top.specs.Message.{usage_line, read_fault_line, too_long_line, bad_script_line, bad_script_fault}
+use Rattle.rt_top.specs.Message.{usage_line, read_fault_line, too_long_line, bad_script_line}
 use Rattle.rt_top.specs.Turns.{IsCutShort, after_picks}
 
 -- the sink of a call: what it held before and holds after it, and how often it had failed
@@ -75,22 +74,17 @@ Replays statuses.WriteFault script turns output = IsCut script turns output
 Replays statuses.NoMemory script turns output = Unit {0}
 Replays _ script turns output = ⊥
 
--- the text is no script, or one that the machine doesn't play yet
-abbrev pub IsNotPlayed : Result Script FaultAt → Type 0
-IsNotPlayed (Err fault) = Unit {0}
-IsNotPlayed (Ok script) = IsPlayable script → ⊥
-
--- the answer that a script isn't played for that fault, and its line
+-- the answer that a text is no script for that fault, and its line
 abbrev pub AnswersBadScript : Status → FaultAt → Output → Type 0
 AnswersBadScript statuses.BadScript fault output = IsTold (bad_script_line fault) output
 AnswersBadScript statuses.NoMemory fault output = Unit {0}
 AnswersBadScript _ fault output = ⊥
 
--- what an answer says of an input that was read whole: no script that is played, or a script and its replay
+-- what an answer says of an input that was read whole: no script, for its first fault, or a script and its replay
 abbrev pub AnswersInput : Options → Status → List ℕ → Output → Type 0
-AnswersInput options statuses.BadScript input output = IsNotPlayed (script_of input) × IsTold (bad_script_line (bad_script_fault (script_of input))) output
+AnswersInput options statuses.BadScript input output = (fault : FaultAt) × (script_of input ≡ Err fault) × IsTold (bad_script_line fault) output
 AnswersInput options statuses.NoMemory input output = Unit {0}
-AnswersInput options status input output = (script : Script) × (script_of input ≡ Ok script) × IsPlayable script × Replays status script (turns_of options script) output
+AnswersInput options status input output = (script : Script) × (script_of input ≡ Ok script) × Replays status script (turns_of options script) output
 
 -- the input was read to its end, within the limit and without a fault
 pub record IsWhole (bytes : List ℕ) (input : Input) : Type 0 where

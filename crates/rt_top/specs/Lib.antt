@@ -15,7 +15,7 @@ pub use Rattle.rt_model.specs.NextEvent
 pub use Rattle.rt_model.specs.StateAfter
 pub use Rattle.rt_model.specs.Run
 pub use Rattle.rt_model.specs.Order
-pub use Rattle.rt_model.specs.Stage
+pub use Rattle.rt_model.specs.CallKinds
 pub use Rattle.rt_model.specs.laws
 pub use Rattle.rt_script.specs.Grammar
 pub use Rattle.rt_core.specs.Text

@@ -1,6 +1,5 @@
 -- The lines that tell why nothing was played.
-use Rattle.std.specs.Prelude.{ℕ, List, [], ◌∷◌, ◌++◌, codes, decimal, Result, Ok, Err}
-use Rattle.rt_base.specs.Script.{Script}
+use Rattle.std.specs.Prelude.{ℕ, List, [], ◌∷◌, ◌++◌, codes, decimal}
 use Rattle.rt_script.specs.declared.fault.Why.{Why}
 use Rattle.rt_script.specs.declared.fault.Why.TheVariants.{NotAscii, BadHeader, BadLine, BadName, NameTwice, Unknown, BadNumber, WrongKind, TooMany, NoGo, AfterGo}
 use Rattle.rt_script.specs.Grammar.{FaultAt}
@@ -38,8 +37,3 @@ fault_at line why = record { line = line; why = why }
 -- a line of the script is at fault
 abbrev pub bad_script_line : FaultAt → List ℕ
 bad_script_line fault = codes "bad script: line " ++ decimal fault.line ++ codes ", fault " ++ decimal (fault_number fault.why) ++ 10 ∷ []
-
--- the first fault of a text, and for a script that the machine doesn't play yet a wrong kind in no line
-abbrev pub bad_script_fault : Result Script FaultAt → FaultAt
-bad_script_fault (Err fault) = fault
-bad_script_fault (Ok script) = record { line = 0; why = WrongKind }

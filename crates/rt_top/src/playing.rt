@@ -14,7 +14,7 @@ ghost use Rattle.rt_top.specs.Printing.{PrintsTo};
 ghost use Rattle.rt_top.specs.Playing.{IsLastOf, IsPartMade, Moves, Stops};
 ghost use Rattle.rt_top.specs.Turns.{TellsLimit, by_picks};
 
-use crate::order::next_chosen;
+use crate::order::pick_next;
 use crate::printing::{flush, flush_if_full};
 use crate::progress::Progress;
 use rt_base::limits::LINE_LIMIT;
@@ -121,8 +121,8 @@ fn play<K: Sink>(
     ensures script { IsOf script.now core.new.state }
     ensures capacity { vec_capacity buf.old ≤ vec_capacity buf.new }
 {
-    match core.next(t) {
-        Some(e) => play_event(core, script, &e, first, so_far, buf, out),
+    match &core.next(t) {
+        Some(e) => play_event(core, script, e, first, so_far, buf, out),
         None => Ok(so_far),
     }
 }
@@ -218,10 +218,10 @@ fn play_chosen<K: Sink>(
 {
     let mut now = Progress { count: 0, last };
     for _turn in 0..turns {
-        let Some(e) = next_chosen(core, now.last) else {
+        let Some(t) = pick_next(core, now.last) else {
             return Ok(now);
         };
-        now = play_event(core, script, &e, first, now, buf, out)?;
+        now = play(core, script, t, first, now, buf, out)?;
     }
     Ok(now)
 }

@@ -10,7 +10,7 @@ pub enum Status {
     Done,
     /// The words are none that the program takes.
     Usage,
-    /// The input is no script, or one that isn't played yet.
+    /// The input is no script.
     BadScript,
     /// No task has a next event, and some task isn't at the end of its calls.
     Stuck,

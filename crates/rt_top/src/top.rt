@@ -1,7 +1,6 @@
 ghost use Rattle.std.specs.Prelude.{◌≡◌, ◌≢◌, ◌↔◌, ◌≤◌, ℕ, List, length};
 ghost use Rattle.rt_base.specs.Outside.{Takes};
 ghost use Rattle.rt_base.specs.Script.{IsScript};
-ghost use Rattle.rt_model.specs.Stage.{IsPlayable};
 ghost use Rattle.rt_top.specs.Words.{IsAccepted, bytes_of, options_of};
 ghost use Rattle.rt_top.specs.Answer.{Answers, AnswersReplay, AnswersInput, Replays, AnswersBadScript, input_of, output_of, turns_of};
 ghost use Rattle.rt_top.specs.Message.{fault_at};
@@ -111,14 +110,13 @@ fn replay_input<K: Sink>(alloc: Global, options: Options, bytes: &[u8], out: &mu
     ensures write_count { K.faults out.old ≤ K.faults out.new }
 {
     match read_script(alloc, bytes) {
-        Ok(script) if Core::can(&script) => replay_script(alloc, options, &script, out),
-        Ok(_) => answer_bad_script(alloc, 0, Why::WrongKind, out),
+        Ok(script) => replay_script(alloc, options, &script, out),
         Err(ScriptFault::At { line, why }) => answer_bad_script(alloc, line, why, out),
         Err(ScriptFault::Memory(_)) => Status::NoMemory,
     }
 }
 
-// Answers that the input is no script that is played, and writes the line that says why.
+// Answers that the input is no script, and writes the line that says why.
 fn answer_bad_script<K: Sink>(alloc: Global, line: u32, why: Why, out: &mut K) -> Status
     ensures outcome { AnswersBadScript result (fault_at line why)
         (output_of K.held K.faults out.old out.new) }
@@ -146,8 +144,7 @@ fn turns(options: Options, script: &Script) -> u64
 
 // Replays a script. All memory is taken before the first byte is written.
 fn replay_script<K: Sink>(alloc: Global, options: Options, script: &Script, out: &mut K) -> Status
-    requires valid { IsScript script.now }
-    requires playable { IsPlayable script.now }
+    requires { IsScript script.now }
     ensures outcome { Replays result script.now (turns_of options script.now)
         (output_of K.held K.faults out.old out.new) }
     ensures unwritten { result ≡ Status.NoMemory → out.new ≡ out.old }

@@ -1,15 +1,16 @@
 // Acquires: fast, mark, take.
-ghost use Rattle.std.specs.Prelude.{◌≡◌, ◌<◌, length, true, Some};
+ghost use Rattle.std.specs.Prelude.{◌≡◌, ◌<◌, length, true, IsSome, None, Some};
 ghost use Rattle.rt_model.specs.declared.phase.Phase.TheVariants.{Slow};
 ghost use Rattle.rt_model.specs.Parts.{call_of, kind_of};
 ghost use Rattle.rt_model.specs.State.{lock_in};
-ghost use Rattle.rt_model.specs.steps.Thread.{phase_after_got};
+ghost use Rattle.rt_model.specs.steps.Thread.{phase_after_got, migration_with};
 ghost use Rattle.rt_model.specs.StateAfter.{update};
 ghost use Rattle.rt_model.specs.steps.Lock.{taken_by};
 ghost use Rattle.rt_model.specs.events.Acquire.{taker};
+ghost use Rattle.rt_parts.specs.Thread.{IsCounted};
 
 use rt_base::LockId;
-use rt_model::{Event, Phase};
+use rt_model::Event;
 use rt_parts::{Shared, Thread};
 
 /// The task is the owner, and its call has the owner part.
@@ -23,14 +24,16 @@ pub fn fast(shared: &mut Shared, thread: &mut Thread, e: &Event, l: LockId)
     thread.got();
 }
 
-/// The waiters bit is set.
+/// The waiters bit is set; a call for a local lock stays on its processor from here on.
 pub fn mark(shared: &mut Shared, thread: &mut Thread, l: LockId)
-    requires { l.0 < length shared.old.locks }
+    requires lock { l.0 < length shared.old.locks }
+    requires call { IsSome (call_of thread.old) }
+    requires counted { IsCounted thread.old }
     ensures shared { shared.new ≡ record shared.old { locks = update shared.old.locks l.0 (λ lock. record lock { bit = true }) } }
-    ensures thread { thread.new ≡ record thread.old { phase = Slow } }
+    ensures thread { thread.new ≡ record thread.old { phase = Slow; migration = migration_with thread.old (call_of thread.old) None } }
 {
     shared.set_bit(l);
-    thread.go_to(Phase::Slow);
+    thread.mark();
 }
 
 /// The lock is the task's, which isn't queued any more and keeps the key of the top waiter that is left.

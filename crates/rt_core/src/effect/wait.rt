@@ -60,7 +60,7 @@ pub fn leave(shared: &mut Shared, thread: &mut Thread, e: &Event, l: LockId)
       locks = update shared.old.locks l.0 (left_by e.now.task);
       tasks = at_task (update shared.old.tasks e.now.task.0 (interrupted (spins (kind_of thread.old l)))) e.now.owner (refreshed (Some l) (left_by e.now.task (lock_in shared.old l)).rows);
     } }
-    ensures thread { thread.new ≡ record thread.old { phase = phase_of_walk (Short Interrupted) (goes_on e.now.task (Short Interrupted) e.now.owner (task_at shared.new e.now.owner)) } }
+    ensures thread { thread.new ≡ record thread.old { phase = phase_of_walk (goes_on e.now.task (Short Interrupted) e.now.owner (task_at shared.new e.now.owner)) } }
 {
     shared.clear_signal(e.task);
     leave_row(shared, thread, e.task, l, e.owner, Reply::Interrupted);
@@ -85,7 +85,7 @@ pub fn leave_row(
       locks = update shared.old.locks l.0 (left_by t);
       tasks = at_task (update shared.old.tasks t.0 (leave_queue (spins (kind_of thread.old l)))) owner (refreshed (Some l) (left_by t (lock_in shared.old l)).rows);
     } }
-    ensures thread { thread.new ≡ record thread.old { phase = phase_of_walk (Short answer) (goes_on t (Short answer) owner (task_at shared.new owner)) } }
+    ensures thread { thread.new ≡ record thread.old { phase = phase_of_walk (goes_on t (Short answer) owner (task_at shared.new owner)) } }
 {
     shared.remove(l, t);
     shared.leave_queue(t, thread.kind_of(l).spins());

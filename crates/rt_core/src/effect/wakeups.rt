@@ -50,7 +50,7 @@ pub fn setprio(shared: &mut Shared, thread: &mut Thread, e: &Event)
     requires other { IfSome e.now.other (λ t. t.0 < length shared.old.tasks) }
     requires set { IsPriority e.now }
     ensures shared { shared.new ≡ record shared.old { tasks = at_task shared.old.tasks e.now.other (with_own e.now.value) } }
-    ensures thread { thread.new ≡ record thread.old { phase = phase_of_walk (Short Done) (goes_on e.now.task (Short Done) e.now.other (task_at shared.new e.now.other)) } }
+    ensures thread { thread.new ≡ record thread.old { phase = phase_of_walk (goes_on e.now.task (Short Done) e.now.other (task_at shared.new e.now.other)) } }
 {
     let (Some(u), Some(prio)) = (e.other, Prio::new(e.value as u64)) else {
         return;

@@ -66,7 +66,7 @@ pub fn cycle(shared: &mut Shared, thread: &mut Thread, e: &Event, l: LockId)
       locks = update shared.old.locks l.0 (left_by e.now.task);
       tasks = at_task (update shared.old.tasks e.now.task.0 (leave_queue (spins (kind_of thread.old l)))) (first_owner e.now.path) (refreshed (Some l) (left_by e.now.task (lock_in shared.old l)).rows);
     } }
-    ensures thread { let owner = first_owner e.now.path in thread.new ≡ record thread.old { phase = phase_of_walk (Short Deadlock) (goes_on e.now.task (Short Deadlock) owner (task_at shared.new owner)) } }
+    ensures thread { let owner = first_owner e.now.path in thread.new ≡ record thread.old { phase = phase_of_walk (goes_on e.now.task (Short Deadlock) owner (task_at shared.new owner)) } }
 {
     let owner = first_owner(&e.path);
     leave_row(shared, thread, e.task, l, owner, Reply::Deadlock);
@@ -74,14 +74,14 @@ pub fn cycle(shared: &mut Shared, thread: &mut Thread, e: &Event, l: LockId)
 
 /// The phase in which a call stands that is over but for the priorities along a chain, as at the end of
 /// `remove_waiter` and in `rt_mutex_adjust_pi`: where the task from which the chain goes on is queued with an
-/// old key, a short walk begins there.
+/// old key, a short walk begins there; else the call's answer follows, which ends the phase.
 pub fn first_phase(shared: &Shared, task: Option<TaskId>, answer: Reply) -> Phase
     requires { IfSome task (λ t. t.0 < length shared.now.tasks) }
-    ensures { (walker : TaskId) → result ≡ phase_of_walk (Short answer) (goes_on walker (Short answer) task (task_at shared.now task)) }
+    ensures { (walker : TaskId) → result ≡ phase_of_walk (goes_on walker (Short answer) task (task_at shared.now task)) }
 {
     match task {
         Some(u) if has_old_key(shared.task(u)) => Phase::Walk(u, Route::Short(answer)),
-        _ => Phase::Start,
+        _ => Phase::Wait,
     }
 }
 

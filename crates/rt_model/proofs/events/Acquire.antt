@@ -2,7 +2,6 @@
 use Rattle.std.proofs.Common.{◌≡◌, ◌⊎◌, inl, inr, ◌<◌, length, Bool, true, false, cond, not, ◌&&◌, refl, sym, ap, ◌∙◌, Option, Some, None, is_none, subst}
 use Rattle.rt_base.specs.declared.call.Call.{Call}
 use Rattle.rt_base.specs.declared.call.Call.TheVariants as calls
-use Rattle.rt_base.specs.declared.id.Cpu.{Cpu}
 use Rattle.rt_base.specs.declared.id.LockId.{LockId}
 use Rattle.rt_base.specs.declared.id.TaskId.{TaskId}
 use Rattle.rt_base.specs.declared.kind.Kind.{Kind}
@@ -159,13 +158,13 @@ take-phased P s t l (from_wait asks awake) slow wait start = subst P (sym asks.a
 take-phased P s t l (from_trying at) slow wait start = subst P (sym at.at.phased) start
 
 -- what an acquire leaves of a call: the answer got, with the lock held, or the next step of a reader or a writer
-pub acquiring-holds : (P : Call → Type 0) (call : Call) (l : LockId) → IsAcquireOf l call → P (calls.Lock l) → P (calls.LockInt l) → P (calls.Spin l) → P (calls.TryLock l) → P (calls.TrySpin l)
+pub acquiring-holds : (P : Call → Type 0) (call : Call) (l : LockId) → IsAcquireOf l call → P (calls.Lock l) → P (calls.LockInt l) → P (calls.Spin l) → P (calls.Local l) → P (calls.TryLock l) → P (calls.TrySpin l)
     → P (calls.Read l) → P (calls.Write l) → P (calls.TryWrite l) → P call
-acquiring-holds P call l (inl waits_for) lock lockint spin trylock tryspin read write trywrite = waits-holds P call l waits_for lock lockint spin read write
-acquiring-holds P call l (inr tries) lock lockint spin trylock tryspin read write trywrite = tries-holds P call l tries trylock tryspin trywrite
+acquiring-holds P call l (inl waits_for) lock lockint spin local trylock tryspin read write trywrite = waits-holds P call l waits_for lock lockint spin local read write
+acquiring-holds P call l (inr tries) lock lockint spin local trylock tryspin read write trywrite = tries-holds P call l tries trylock tryspin trywrite
 
-pub acquiring-called : (cpu : Cpu) (call : Call) (l : LockId) → IsAcquireOf l call → called_lock cpu call ≡ Some l
-acquiring-called cpu call l is = acquiring-holds (λ c. called_lock cpu c ≡ Some l) call l is refl refl refl refl refl refl refl refl
+pub acquiring-called : (call : Call) (l : LockId) → IsAcquireOf l call → called_lock call ≡ Some l
+acquiring-called call l is = acquiring-holds (λ c. called_lock c ≡ Some l) call l is refl refl refl refl refl refl refl refl refl
 
 -- ---- what the choice reads
 

@@ -20,7 +20,7 @@ use Rattle.rt_model.proofs.Calling.{IsIn}
 pub record IsOwn (s : State) (t : TaskId) (call : Call) (answer : Reply) (e : Event) : Type 0 where
   pub at : IsIn s t phases.Start call
   pub why : own_answer (thread_part s t) call ≡ Some answer
-  pub event : e ≡ own_event t (called_lock (thread_part s t).cpu call) answer
+  pub event : e ≡ own_event t (called_lock call) answer
 
 -- an acquire that isn't answered at once is of a lock that isn't held, and a release of one that is
 pub not_held : (nested : ℕ) (held : Bool) → unless_nested nested (if_held held) ≡ None → held ≡ false

@@ -3,7 +3,6 @@ use Rattle.std.proofs.Common.{◌≡◌, ◌<◌, length, Bool, true, false, con
 use Rattle.std.specs.Prelude.{nat_lt}
 use Rattle.rt_base.specs.declared.call.Call.{Call}
 use Rattle.rt_base.specs.declared.call.Call.TheVariants as calls
-use Rattle.rt_base.specs.declared.id.Cpu.{Cpu}
 use Rattle.rt_base.specs.declared.id.LockId.{LockId}
 use Rattle.rt_base.specs.declared.id.TaskId.{TaskId}
 use Rattle.rt_base.specs.declared.reply.Reply.TheVariants.{Got, Busy}
@@ -109,28 +108,28 @@ pub record IsReadingIn (s : State) (t : TaskId) (l : LockId) : Type 0 where
   pub phase : Phase
   pub call : Call
   pub at : IsIn s t phase call
-  pub about : (cpu : Cpu) → called_lock cpu call ≡ Some l
+  pub about : called_lock call ≡ Some l
   pub lock : l.0 < length s.locks
 
-at_lock : (s : State) (t : TaskId) (l : LockId) (phase : Phase) (call : Call) (x e : Event) → IsMade s t l phase call x e → ((cpu : Cpu) → called_lock cpu call ≡ Some l) → IsReadingIn s t l
+at_lock : (s : State) (t : TaskId) (l : LockId) (phase : Phase) (call : Call) (x e : Event) → IsMade s t l phase call x e → called_lock call ≡ Some l → IsReadingIn s t l
 at_lock s t l phase call x e is about = record { phase = phase; call = call; at = is.at; about = about; lock = is.lock }
 
 pub reading-in : (s : State) (t : TaskId) (l : LockId) (e : Event) → IsReading s t l e → IsReadingIn s t l
-reading-in s t l e (is_read is unheld can) = at_lock s t l _ _ _ e is (λ cpu. refl)
-reading-in s t l e (is_tryread is set) = at_lock s t l _ _ _ e is (λ cpu. refl)
-reading-in s t l e (is_let_in is) = at_lock s t l _ _ _ e is (λ cpu. refl)
-reading-in s t l e (is_shut is unheld cannot) = at_lock s t l _ _ _ e is (λ cpu. refl)
-reading-in s t l e (is_tryshut is off) = at_lock s t l _ _ _ e is (λ cpu. refl)
-reading-in s t l e (is_out is held) = at_lock s t l _ _ _ e is (λ cpu. refl)
-reading-in s t l e (is_wwake is) = at_lock s t l _ _ _ e is (λ cpu. refl)
-reading-in s t l e (is_unbias call writes is) = at_lock s t l _ _ _ e is (λ cpu. writes-called cpu call l writes)
-reading-in s t l e (is_in call writes is can) = at_lock s t l _ _ _ e is (λ cpu. writes-called cpu call l writes)
-reading-in s t l e (is_sleep is cannot) = at_lock s t l _ _ _ e is (λ cpu. refl)
-reading-in s t l e (is_given_up is cannot) = at_lock s t l _ _ _ e is (λ cpu. refl)
-reading-in s t l e (is_in_late is runs can) = at_lock s t l _ _ _ e is (λ cpu. refl)
-reading-in s t l e (is_sleep_again is runs cannot) = at_lock s t l _ _ _ e is (λ cpu. refl)
-reading-in s t l e (is_opened is held) = at_lock s t l _ _ _ e is (λ cpu. refl)
-reading-in s t l e (is_downgraded is held) = at_lock s t l _ _ _ e is (λ cpu. refl)
+reading-in s t l e (is_read is unheld can) = at_lock s t l _ _ _ e is refl
+reading-in s t l e (is_tryread is set) = at_lock s t l _ _ _ e is refl
+reading-in s t l e (is_let_in is) = at_lock s t l _ _ _ e is refl
+reading-in s t l e (is_shut is unheld cannot) = at_lock s t l _ _ _ e is refl
+reading-in s t l e (is_tryshut is off) = at_lock s t l _ _ _ e is refl
+reading-in s t l e (is_out is held) = at_lock s t l _ _ _ e is refl
+reading-in s t l e (is_wwake is) = at_lock s t l _ _ _ e is refl
+reading-in s t l e (is_unbias call writes is) = at_lock s t l _ _ _ e is (writes-called call l writes)
+reading-in s t l e (is_in call writes is can) = at_lock s t l _ _ _ e is (writes-called call l writes)
+reading-in s t l e (is_sleep is cannot) = at_lock s t l _ _ _ e is refl
+reading-in s t l e (is_given_up is cannot) = at_lock s t l _ _ _ e is refl
+reading-in s t l e (is_in_late is runs can) = at_lock s t l _ _ _ e is refl
+reading-in s t l e (is_sleep_again is runs cannot) = at_lock s t l _ _ _ e is refl
+reading-in s t l e (is_opened is held) = at_lock s t l _ _ _ e is refl
+reading-in s t l e (is_downgraded is held) = at_lock s t l _ _ _ e is refl
 
 -- what holds of each event, as it is written and in the phase in which it comes, holds of each
 pub record HoldsOfReading (P : Phase → Event → Type 0) (s : State) (t : TaskId) (l : LockId) : Type 0 where

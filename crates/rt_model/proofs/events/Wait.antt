@@ -14,7 +14,7 @@ use Rattle.rt_model.specs.Rows.{can_take}
 use Rattle.rt_model.specs.State.{State, shared, task_at, owner_part, task_part, thread_part}
 use Rattle.rt_model.specs.steps.Task.{runs}
 use Rattle.rt_model.specs.events.Wait.{wait_event, slow_event, leave_event, is_interrupted, is_awake, again_event, refused_event, awake_event, queued_event}
-use Rattle.rt_model.proofs.Calling.{IsIn, WaitsFor, by_lock, by_lockint, by_spin, by_read, by_write, Asks, asks-lock}
+use Rattle.rt_model.proofs.Calling.{IsIn, WaitsFor, by_lock, by_lockint, by_spin, by_local, by_read, by_write, Asks, asks-lock}
 use Rattle.rt_model.proofs.events.Acquire.{IsTake, from_slow, from_wait, taken_or}
 
 -- ---- how they come about
@@ -74,6 +74,7 @@ interrupted-asks s t phase l asks is = by_call asks.waits_for
     by_call : WaitsFor asks.call l → IsInterrupted s t phase l
     by_call (by_lock same) = let never : false ≡ true = told (calls.Lock l) same in absurd cc
     by_call (by_spin same) = let never : false ≡ true = told (calls.Spin l) same in absurd cc
+    by_call (by_local same) = let never : false ≡ true = told (calls.Local l) same in absurd cc
     by_call (by_read same) = let never : false ≡ true = told (calls.Read l) same in absurd cc
     by_call (by_write same) = let never : false ≡ true = told (calls.Write l) same in absurd cc
     by_call (by_lockint same) = record { at = subst (IsIn s t phase) same asks.at; signal = told (calls.LockInt l) same }

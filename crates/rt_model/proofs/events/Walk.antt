@@ -10,7 +10,7 @@ use Rattle.rt_model.specs.declared.phase.Route.{Route}
 use Rattle.rt_model.specs.declared.phase.Route.TheVariants.{Full, Short}
 use Rattle.rt_model.specs.Parts.{TaskPart}
 use Rattle.rt_model.specs.State.{State, Shared, shared, lock_in, task_in, lock_at, task_at, owner_part, task_part}
-use Rattle.rt_model.specs.Stage.{IsToCome, IsPhaseOf}
+use Rattle.rt_model.specs.CallKinds.{IsToCome, IsPhaseOf}
 use Rattle.rt_model.specs.Path.{Link, first_lock, first_owner, first_broken}
 use Rattle.rt_model.specs.events.Walk.{walkend_event, walk_event, cursor_event, restart_event, cycle_event, confirmed_event}
 use Rattle.rt_model.proofs.Calling.{IsIn, Asks, asked}

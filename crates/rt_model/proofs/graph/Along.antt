@@ -76,15 +76,15 @@ cycle-blocked s path stands =
 -- a walk that has made it follows a longer part, or has come round
 goes-past : (s : State) (first : ℕ × ℕ) (path : List (ℕ × ℕ)) (pair : ℕ × ℕ) (rest : List (ℕ × ℕ)) (task : TaskPart)
     → IsCycle s ((first ∷ path) ++ pair ∷ rest) → is_none task.blocked ≡ false
-    → IsPast (first ∷ path) pair rest (phase_of_walk (Full (first ∷ path)) (full_at (task_of_pair first) ((first ∷ path) ++ pair ∷ []) (first_task (task_of_pair first) rest) task))
+    → IsPast (first ∷ path) pair rest (phase_of_walk (full_at (task_of_pair first) ((first ∷ path) ++ pair ∷ []) (first_task (task_of_pair first) rest) task))
 goes-past s first path pair [] task stands blocked =
-    ap (phase_of_walk (Full (first ∷ path))) (comes-back (task_of_pair first) (task_of_pair first) ((first ∷ path) ++ pair ∷ []) task blocked (number_itself first.0))
+    ap phase_of_walk (comes-back (task_of_pair first) (task_of_pair first) ((first ∷ path) ++ pair ∷ []) task blocked (number_itself first.0))
 goes-past s first path pair (next ∷ rest) task stands blocked =
     let whole : ((first ∷ path) ++ pair ∷ []) ++ next ∷ rest ≡ (first ∷ path) ++ pair ∷ next ∷ rest = append_assoc (first ∷ path) (pair ∷ []) (next ∷ rest) in
     let ahead : All (λ (other : ℕ × ℕ). other.0 ≢ next.0) ((first ∷ path) ++ pair ∷ []) =
     pairs-before Differ ((first ∷ path) ++ pair ∷ []) next rest (subst (AllPairs Differ) (sym whole) stands.differ) in
     let apart : nat_eq next.0 first.0 ≡ false = other-test next.0 first.0 (λ same. All-head (λ (other : ℕ × ℕ). other.0 ≢ next.0) first (path ++ pair ∷ []) ahead (sym same)) in
-    ap (phase_of_walk (Full (first ∷ path))) (goes-further (task_of_pair first) (task_of_pair next) ((first ∷ path) ++ pair ∷ []) task blocked apart ahead)
+    ap phase_of_walk (goes-further (task_of_pair first) (task_of_pair next) ((first ∷ path) ++ pair ∷ []) task blocked apart ahead)
 
 -- so it goes along the cycle still
 past-along : (first : ℕ × ℕ) (path : List (ℕ × ℕ)) (pair : ℕ × ℕ) (rest : List (ℕ × ℕ)) (phase : Phase) → IsPast (first ∷ path) pair rest phase → IsAlong ((first ∷ path) ++ pair ∷ rest) phase
@@ -102,14 +102,14 @@ none-alike (Some a) (Some b) same = refl
 -- so the walk of the cycle's first task, at the task of this pair and through its lock
 link-past : (s : State) (first : ℕ × ℕ) (path : List (ℕ × ℕ)) (pair : ℕ × ℕ) (rest : List (ℕ × ℕ)) (w u : TaskId) (l : LockId) (task : TaskPart) → IsCycle s ((first ∷ path) ++ pair ∷ rest)
     → task_of_pair first ≡ w → task_of_pair pair ≡ u → record { 0 = pair.1 } ≡ l → blocked_lock task ≡ blocked_lock (task_at (shared s) (owner_part s l).owner)
-    → IsPast (first ∷ path) pair rest (phase_of_walk (Full (first ∷ path)) (goes_on w (Full ((first ∷ path) ++ (u.0, l.0) ∷ [])) (owner_part s l).owner task))
+    → IsPast (first ∷ path) pair rest (phase_of_walk (goes_on w (Full ((first ∷ path) ++ (u.0, l.0) ∷ [])) (owner_part s l).owner task))
 link-past s first path pair rest w u l task stands begun cursor at =
     subst (λ (t : TaskId). Along t u l) begun (subst (λ (v : TaskId). Along (task_of_pair first) v l) cursor (subst (λ (m : LockId). Along (task_of_pair first) (task_of_pair pair) m) at here))
   where
     Along : TaskId → TaskId → LockId → Type 0
     Along t v m =
         blocked_lock task ≡ blocked_lock (task_at (shared s) (owner_part s m).owner)
-        → IsPast (first ∷ path) pair rest (phase_of_walk (Full (first ∷ path)) (goes_on t (Full ((first ∷ path) ++ (v.0, m.0) ∷ [])) (owner_part s m).owner task))
+        → IsPast (first ∷ path) pair rest (phase_of_walk (goes_on t (Full ((first ∷ path) ++ (v.0, m.0) ∷ [])) (owner_part s m).owner task))
 
     here : Along (task_of_pair first) (task_of_pair pair) (record { 0 = pair.1 })
     here owner =
@@ -117,7 +117,7 @@ link-past s first path pair rest w u l task stands begun cursor at =
         let owned : (owner_part s (record { 0 = pair.1 })).owner ≡ Some o = (link-after (Edge s) first path pair rest stands.edges).owned in
         let same : blocked_lock task ≡ blocked_lock (task_part s o) = owner ∙ ap (λ (p : Option TaskId). blocked_lock (task_at (shared s) p)) owned in
         let waits = link-after (λ (link : Link). is_none (task_part s link.to).blocked ≡ false) first path pair rest (cycle-blocked s ((first ∷ path) ++ pair ∷ rest) stands) in
-        subst (λ (p : Option TaskId). IsPast (first ∷ path) pair rest (phase_of_walk (Full (first ∷ path)) (goes_on (task_of_pair first) (Full ((first ∷ path) ++ pair ∷ [])) p task))) (sym owned)
+        subst (λ (p : Option TaskId). IsPast (first ∷ path) pair rest (phase_of_walk (goes_on (task_of_pair first) (Full ((first ∷ path) ++ pair ∷ [])) p task))) (sym owned)
         (goes-past s first path pair rest task stands (none-alike task.blocked (task_part s o).blocked same ∙ waits))
 
 -- ---- the responsible task
@@ -169,10 +169,10 @@ module _ (s : State) (cycle : List (ℕ × ℕ)) (w : TaskId) (stands : IsCycle 
 
     -- the link from there leads to the next pair, or round
     pub walk-past : (next : State) (l : LockId) (task : TaskPart) → blocked_lock (task_part s u) ≡ Some l → blocked_lock task ≡ blocked_lock (task_at (shared s) (owner_part s l).owner)
-        → (thread_part next w).phase ≡ phase_of_walk (Full path) (goes_on w (Full (path ++ (u.0, l.0) ∷ [])) (owner_part s l).owner task) → IsPast path walk-at.pair walk-at.back (thread_part next w).phase
+        → (thread_part next w).phase ≡ phase_of_walk (goes_on w (Full (path ++ (u.0, l.0) ∷ [])) (owner_part s l).owner task) → IsPast path walk-at.pair walk-at.back (thread_part next w).phase
     walk-past next l task at owner now = subst (IsPast path walk-at.pair walk-at.back) (sym now) (by_path path walk-at is_part.some)
       where
-        by_path : (p : List (ℕ × ℕ)) (part : IsAtPair s cycle p u) → p ≢ [] → IsPast p part.pair part.back (phase_of_walk (Full p) (goes_on w (Full (p ++ (u.0, l.0) ∷ [])) (owner_part s l).owner task))
+        by_path : (p : List (ℕ × ℕ)) (part : IsAtPair s cycle p u) → p ≢ [] → IsPast p part.pair part.back (phase_of_walk (goes_on w (Full (p ++ (u.0, l.0) ∷ [])) (owner_part s l).owner task))
         by_path [] part some = absurd (some refl)
         by_path (pair ∷ p) part some =
             let same : record { 0 = part.pair.1 } ≡ l = (let there = part.blocked in cc) in
@@ -181,7 +181,7 @@ module _ (s : State) (cycle : List (ℕ × ℕ)) (w : TaskId) (stands : IsCycle 
 
     -- and so leaves the task responsible
     pub walk-along : (next : State) (l : LockId) (task : TaskPart) → blocked_lock (task_part s u) ≡ Some l → blocked_lock task ≡ blocked_lock (task_at (shared s) (owner_part s l).owner)
-        → (thread_part next w).phase ≡ phase_of_walk (Full path) (goes_on w (Full (path ++ (u.0, l.0) ∷ [])) (owner_part s l).owner task) → IsResponsible next cycle
+        → (thread_part next w).phase ≡ phase_of_walk (goes_on w (Full (path ++ (u.0, l.0) ∷ [])) (owner_part s l).owner task) → IsResponsible next cycle
     walk-along next l task at owner now =
         along-responsible next cycle w first (cycle-some s cycle stands)
         (subst (λ (c : List (ℕ × ℕ)). IsAlong c (thread_part next w).phase) (sym walk-at.along) (by_path path walk-at is_part.some (walk-past next l task at owner now)))

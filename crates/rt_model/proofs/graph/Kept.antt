@@ -165,7 +165,7 @@ module _ (s next : State) where
 
     pub kept-walk : (u : TaskId) (l : LockId) (path : List (ℕ × ℕ)) (task : TaskPart) → (thread_part s w).phase ≡ Walk u (Full path) → blocked_lock (task_part s u) ≡ Some l
         → blocked_lock task ≡ blocked_lock (task_at (shared s) (owner_part s l).owner)
-        → (thread_part next w).phase ≡ phase_of_walk (Full path) (goes_on w (Full (path ++ (u.0, l.0) ∷ [])) (owner_part s l).owner task) → ResponsibleLaw s → ResponsibleLaw next
+        → (thread_part next w).phase ≡ phase_of_walk (goes_on w (Full (path ++ (u.0, l.0) ∷ [])) (owner_part s l).owner task) → ResponsibleLaw s → ResponsibleLaw next
     kept-walk u l path task phase at owner now =
         kept_walker (λ cycle stands responsible first. walk-along s cycle w stands responsible first u path phase next l task at owner now)
 

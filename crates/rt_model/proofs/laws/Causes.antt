@@ -6,6 +6,7 @@ use Rattle.std.proofs.lemmas.List.Elements.{All-nil, All-cons, All-head, All-tai
 use Rattle.std.proofs.lemmas.List.{append-nil, append_assoc}
 use Rattle.rt_base.specs.declared.call.Call.{Call}
 use Rattle.rt_base.specs.declared.call.Call.TheVariants as calls
+use Rattle.rt_base.specs.declared.id.Cpu.{Cpu}
 use Rattle.rt_base.specs.declared.id.LockId.{LockId}
 use Rattle.rt_base.specs.declared.id.TaskId.{TaskId}
 use Rattle.rt_base.specs.declared.reply.Reply.{Reply}
@@ -24,7 +25,7 @@ use Rattle.rt_model.specs.Rows.{row_of}
 use Rattle.rt_model.specs.State.{State, shared, lock_at, task_at, owner_part, reader_part, task_part, thread_part}
 use Rattle.rt_model.specs.steps.Chain.{followed, goes_on, phase_of_walk, answer_of_walk}
 use Rattle.rt_model.specs.Path.{first_lock, first_owner}
-use Rattle.rt_model.specs.events.Own.{unless_nested, if_held, if_not_held}
+use Rattle.rt_model.specs.events.Own.{unless_nested, if_held, if_not_held, or_moved}
 use Rattle.rt_model.specs.events.Wait.{phase_after_wait, leave_event}
 use Rattle.rt_model.specs.events.Walk.{walk_event, cycle_event, phase_after_link, phase_after_end}
 use Rattle.rt_model.specs.events.Wakeups.{setprio_event}
@@ -109,14 +110,14 @@ ends-others s made t e answer lawful ended l u ne =
     left-locks s made t left.0 e lawful left.1 (λ m lock. row_of u lock.rows ≡ row_of u (owner_part s m).rows) l (row_of-without_other t u (owner_part s left.0).rows ne) (λ there. refl)
 
 -- a short walk goes on before its answer
-short-answer : (t : TaskId) (a b : Reply) (owner : Option TaskId) (task : TaskPart) (u : TaskId) → phase_of_walk (Short a) (goes_on t (Short a) owner task) ≡ phases.Walk u (Short b) → a ≡ b
-short-answer t a b owner task u = short-holds (λ next. phase_of_walk (Short a) next ≡ phases.Walk u (Short b) → a ≡ b) t a owner task (λ is. cc) (λ o some old is. cc)
+short-answer : (t : TaskId) (a b : Reply) (owner : Option TaskId) (task : TaskPart) (u : TaskId) → phase_of_walk (goes_on t (Short a) owner task) ≡ phases.Walk u (Short b) → a ≡ b
+short-answer t a b owner task u = short-holds (λ next. phase_of_walk next ≡ phases.Walk u (Short b) → a ≡ b) t a owner task (λ is. cc) (λ o some old is. cc)
 
 -- a full walk never goes on as a short one
 full-never : (t : TaskId) (path rest : List (ℕ × ℕ)) (b : Reply) (owner : Option TaskId) (task : TaskPart) (u : TaskId)
-    → phase_of_walk (Full path) (goes_on t (Full rest) owner task) ≡ phases.Walk u (Short b) → ⊥
+    → phase_of_walk (goes_on t (Full rest) owner task) ≡ phases.Walk u (Short b) → ⊥
 full-never t path rest b owner task u =
-    full-holds (λ next. phase_of_walk (Full path) next ≡ phases.Walk u (Short b) → ⊥) t rest owner task (λ is. cc) (λ some blocked is. cc) (λ o some stands is. cc)
+    full-holds (λ next. phase_of_walk next ≡ phases.Walk u (Short b) → ⊥) t rest owner task (λ is. cc) (λ some blocked is. cc) (λ o some stands is. cc)
 
 -- a thread that walks after an event has no answer by it
 unanswered : (thread : ThreadPart) (reply : Option Reply) (u : TaskId) (route : Route) → (answered_with thread reply).phase ≡ phases.Walk u route → (reply ≡ None) × (thread.phase ≡ phases.Walk u route)
@@ -173,7 +174,7 @@ module _ (s : State) (t : TaskId) (e : Event) (answer : Reply) (u : TaskId) (of 
 
   -- one that begins a short walk before an answer
   starts : (x : Event) (a : Reply) (owner : Option TaskId) (task : TaskPart) → e ≡ x → x.task ≡ t
-      → (thread_left s x).phase ≡ phase_of_walk (Short a) (goes_on t (Short a) owner task) → (a ≡ answer) × (e.reply ≡ None)
+      → (thread_left s x).phase ≡ phase_of_walk (goes_on t (Short a) owner task) → (a ≡ answer) × (e.reply ≡ None)
   starts x a owner task is its leaves =
       let both = walked s t e x u (Short answer) is its lt walks in
       (short-answer t a answer owner task u (sym leaves ∙ both.left), both.none)
@@ -194,7 +195,7 @@ module _ (s : State) (t : TaskId) (e : Event) (answer : Reply) (u : TaskId) (of 
       owner : TaskPart
       owner = (around_left s x).owner
 
-      onward : (r : Route) → route ≡ r → phase_of_walk r (goes_on t (followed cursor l r) (owner_part s l).owner owner) ≡ phases.Walk u (Short answer)
+      onward : (r : Route) → route ≡ r → phase_of_walk (goes_on t (followed cursor l r) (owner_part s l).owner owner) ≡ phases.Walk u (Short answer)
       onward r same = ap (λ (p : Phase). phase_after_link t (Some l) (owner_part s l).owner owner p) (sym (walk-phase s t route cursor is.how ∙ ap (phases.Walk cursor) same)) ∙ both.left
 
       by_route : WalksIn s t route cursor → Comes s t e answer
@@ -209,7 +210,7 @@ module _ (s : State) (t : TaskId) (e : Event) (answer : Reply) (u : TaskId) (of 
   got l x is its at reply left =
       let both = walked s t e x u (Short answer) is its lt walks in
       absurd (acquiring-holds (λ c. got_answer (Some c) ≡ None → phase_after_got (Some c) (thread_part s t).phase ≡ phases.Walk u (Short answer) → ⊥) at.call l at.acquires
-      (λ none. cc) (λ none. cc) (λ none. cc) (λ none. cc) (λ none. cc) (λ none phase. cc) (λ none phase. cc) (λ none phase. cc)
+      (λ none. cc) (λ none. cc) (λ none. cc) (λ none. cc) (λ none. cc) (λ none. cc) (λ none phase. cc) (λ none phase. cc) (λ none phase. cc)
       (ap got_answer (sym at.calling) ∙ (sym reply ∙ both.reply)) (ap (λ (c : Option Call). phase_after_got c (thread_part s t).phase) (sym at.calling) ∙ (sym left ∙ both.left)))
 
   -- one that leaves its task idle
@@ -361,6 +362,10 @@ released-other : (held : Bool) (answer : Reply) → if_not_held held ≡ Some an
 released-other true answer is of = cc
 released-other false answer is of = let other : of_wait replies.NotOwner ≡ of_wait answer = ap of_wait (some-same is) in cc
 
+moved-other : (cpu : Cpu) (answer : Reply) (pinned : Bool) → or_moved (calls.Move cpu) (cond pinned (Some replies.Pinned) None) ≡ Some answer → of_wait answer ≡ true → ⊥
+moved-other cpu answer true is of = let other : of_wait replies.Pinned ≡ of_wait answer = ap of_wait (some-same is) in cc
+moved-other cpu answer false is of = let other : of_wait replies.Done ≡ of_wait answer = ap of_wait (some-same is) in cc
+
 -- the event is on a lock that its task holds
 abbrev pub IsOnHeld : State → TaskId → Event → Type 0
 IsOnHeld s t e = (l : LockId) × (e.lock ≡ Some l) × ((hold_of (thread_part s t) l).owns ≡ true)
@@ -394,7 +399,9 @@ own-held s t (calls.State state) answer e is of = let why = is.why in cc
 own-held s t (calls.Wake u) answer e is of = let why = is.why in cc
 own-held s t (calls.Signal u) answer e is of = let why = is.why in cc
 own-held s t (calls.SetPrio u prio) answer e is of = let why = is.why in cc
-own-held s t _ answer e is of = absurd is.at.served
+own-held s t (calls.Local l) answer e is of = let both = spin-held _ answer is.why in (both.0, (l, ap (λ (x : Event). x.lock) is.event, both.1))
+own-held s t (calls.Unlocal l) answer e is of = absurd (released-other _ answer is.why of)
+own-held s t (calls.Move cpu) answer e is of = absurd (moved-other cpu answer (nat_lt 0 (thread_part s t).migration) is.why of)
 
 -- ---- the cause of a task's short walk, along a run
 

@@ -18,7 +18,7 @@ use Rattle.rt_model.specs.State.{State, shared, free_lock, no_readers, start, ow
 use Rattle.rt_model.specs.Choice.{called_lock, is_on}
 use Rattle.rt_model.specs.Effect.{Around, around}
 use Rattle.rt_model.specs.Rules.{touched, effect}
-use Rattle.rt_model.specs.Stage.{IsForKind}
+use Rattle.rt_model.specs.CallKinds.{IsForKind}
 use Rattle.rt_model.specs.Run.{after, IsRun}
 use Rattle.rt_model.specs.StateAfter.{update, at_lock, state_after}
 use Rattle.rt_model.specs.steps.Readers.{CanStep, can_read, can_write, with_reader, without_reader, unbiased, with_writer, without_writer}
@@ -187,10 +187,10 @@ module _ (s : State) (made : ℕ) (t : TaskId) (e : Event) (lawful : IsLawful s 
       by_how : ReturnsBy s t l is.call → is_writing thread l ≡ false
       by_how (from_hold releases at held) =
           let other : has_readers (kind_of thread l) ≡ false = releases-holds (λ c. IsForKind thread.kinds c → has_readers (kind_of thread l) ≡ false) is.call l releases
-          (ap (λ (k : Option Kind). has_readers (unwrap_or k locks.Mutex))) (ap (λ (k : Option Kind). has_readers (unwrap_or k locks.Mutex))) (call-fits s t is.call lawful.stage is.calling) in
+          (ap (λ (k : Option Kind). has_readers (unwrap_or k locks.Mutex))) (ap (λ (k : Option Kind). has_readers (unwrap_or k locks.Mutex))) (ap (λ (k : Option Kind). has_readers (unwrap_or k locks.Mutex))) (call-fits s t is.call lawful.calls is.calling) in
           ap (λ (b : Bool). b && (hold_of thread l).owns && not (is_passing thread l)) other
       by_how (from_inside ends at) =
-          let inside = inside-its s t l phases.Release is.call at refl (ends-called thread.cpu is.call l ends) in
+          let inside = inside-its s t l phases.Release is.call at refl (ends-called is.call l ends) in
           ap (λ (b : Bool). has_readers (kind_of thread l) && (hold_of thread l).owns && not b) inside ∙ and_right _ false refl
 
   finds : IsNext s t e → IfSome e.lock (λ l. Finds e.kind t (owner_part s l).owner (reader_part s l).writer)
@@ -222,7 +222,7 @@ module _ (s : State) (made : ℕ) (t : TaskId) (e : Event) (lawful : IsLawful s 
           (reading-kind (λ kind. (is_writers kind ≡ true → (owner_part s l).owner ≡ Some t) → Finds kind t (owner_part s l).owner (reader_part s l).writer) s t l e is
           (record { rin = λ own. tt; busy = λ own. tt; rout = λ own. tt; wwake = λ own. tt; unbias = λ own. tt; wtake = λ own. own refl; wsleep = λ own. tt; wopen = λ own. own refl })
           (λ writers. owner-is (owner_part s l).owner t (writer-owned s made t l e lawful is writers)))
-      by_kind (by_own call answer is) = of _ is.event (anyway (called_lock (thread_part s t).cpu call))
+      by_kind (by_own call answer is) = of _ is.event (anyway (called_lock call))
       by_kind (by_acquire l (is_mark is)) = of _ is.event tt
       by_kind (by_acquire l (is_busy is)) = of _ is.event tt
       by_kind (by_wait l (is_wait is)) = of _ is.event tt

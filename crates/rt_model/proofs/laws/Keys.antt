@@ -20,7 +20,7 @@ use Rattle.rt_model.specs.Rows.{top_key}
 use Rattle.rt_model.specs.Path.{Link}
 use Rattle.rt_model.specs.State.{State, shared, task_at, owner_part, task_part, thread_part}
 use Rattle.rt_model.specs.events.Wait.{phase_after_wait}
-use Rattle.rt_model.specs.steps.Chain.{has_old_key, rekeyed, followed, is_on_path, path_before, goes_on, phase_of_walk}
+use Rattle.rt_model.specs.steps.Chain.{has_old_key, rekeyed, followed, is_on_path, path_before, goes_on}
 use Rattle.rt_model.specs.steps.Lock.{left_by}
 use Rattle.rt_model.specs.steps.Task.{with_top, with_own, refreshed, rest_of, blocked_on, leave_queue, lock_woken}
 use Rattle.rt_model.specs.Effect.{Around}
@@ -47,7 +47,7 @@ use Rattle.rt_model.proofs.events.Wakeups.{IsSetPrio}
 use Rattle.rt_model.proofs.Numbers.{at_each_task, same_task, other_number, owner-is}
 use Rattle.rt_model.proofs.PartsAfter.{OthersKeep, task-keeps, own-made, owner-made, thread-own, thread-other}
 use Rattle.rt_model.proofs.Reading.{is_idle, reading-kind, reading-was_idle}
-use Rattle.rt_model.proofs.Routes.{walked-phase}
+use Rattle.rt_model.proofs.Routes.{walked-on}
 use Rattle.rt_model.proofs.Waiters.{slow-unowned, walk-phase}
 use Rattle.rt_model.proofs.Within.{task_room, owner_room}
 
@@ -159,7 +159,7 @@ goes-key : (s : State) (t u : TaskId) (thread : ThreadPart) (route onward : Rout
 goes-key s t u thread route onward task left unnamed =
     passed-key t u onward task
     (λ phase goes names. unnamed (named_by s t u (subst (Names t u)
-    (sym (ap (λ (th : ThreadPart). th.phase) left ∙ (walked-phase thread route (goes_on t onward (Some u) task) ∙ ap (phase_of_walk route) goes))) names)))
+    (sym (ap (λ (th : ThreadPart). th.phase) left ∙ walked-on thread route (goes_on t onward (Some u) task) phase goes)) names)))
 
 -- an event of this kind keeps every key right
 abbrev keeps_keys : EventKind → Bool

@@ -7,7 +7,6 @@ use Rattle.rt_base.specs.declared.call.Call.TheVariants as calls
 use Rattle.rt_base.specs.declared.id.LockId.{LockId}
 use Rattle.rt_base.specs.declared.id.TaskId.{TaskId}
 use Rattle.rt_base.specs.declared.kind.Kind.{Kind}
-use Rattle.rt_base.specs.declared.kind.Kind.TheVariants as locks
 use Rattle.rt_base.specs.declared.reply.Reply.{Reply}
 use Rattle.rt_base.specs.declared.reply.Reply.TheVariants as replies
 use Rattle.rt_model.specs.declared.event.Event.{Event}
@@ -22,12 +21,12 @@ use Rattle.rt_model.specs.Parts.{TaskPart, ThreadPart, call_of, hold_of, kind_of
 use Rattle.rt_model.specs.State.{State, shared, owner_part, task_part, thread_part}
 use Rattle.rt_model.specs.Choice.{called_lock, present_lock, is_on}
 use Rattle.rt_model.specs.Rules.{touched}
-use Rattle.rt_model.specs.events.Own.{unless_nested, if_held, if_not_held, private_answer}
+use Rattle.rt_model.specs.events.Own.{unless_nested, if_held, if_not_held, private_answer, refusal_on, or_moved}
 use Rattle.rt_model.specs.events.Readers.{phase_after_rin}
 use Rattle.rt_model.specs.events.Wait.{phase_after_wait}
 use Rattle.rt_model.specs.steps.Thread.{with_hold, holds_after, answered_with, phase_after_got, got_answer, phase_after_busy, released_answer}
 use Rattle.rt_model.specs.StateAfter.{effect_in, thread_after, state_after}
-use Rattle.rt_model.specs.Stage.{IsPhaseOf}
+use Rattle.rt_model.specs.CallKinds.{IsPhaseOf}
 use Rattle.rt_model.specs.steps.Chain.{followed, goes_on}
 use Rattle.rt_model.specs.steps.Task.{with_own, wake_answer, signal_answer}
 use Rattle.rt_model.specs.laws.Owners.{OwnersLaw, owned_by, has_inner, is_passing, has_owner_part, gives_back}
@@ -109,13 +108,30 @@ private-refuses calls.Schedule kind nested held migration = nested_refuses neste
 private-refuses (calls.Move cpu) kind nested held migration = pinned_refuses (nat_lt 0 migration)
 private-refuses _ kind nested held migration = tt
 
-pub own-refuses : (s : State) (t : TaskId) (call : Call) (answer : Reply) (e : Event) → IsOwn s t call answer e → is_refusal answer ≡ true
-own-refuses s t call answer e is = subst Refuses is.why (private-refuses call _ _ _ _)
+-- or a `move` is done
+abbrev pub is_own : Call → Reply → Bool
+is_own (calls.Move cpu) replies.Done = true
+is_own call answer = is_refusal answer
+
+refusal-own : (call : Call) (answer : Reply) → is_refusal answer ≡ true → is_own call answer ≡ true
+refusal-own (calls.Move cpu) replies.Done refuses = refl
+refusal-own _ _ refuses = refuses
+
+moved-own : (call : Call) (refusal : Option Reply) → Refuses refusal → IfSome (or_moved call refusal) (λ answer. is_own call answer ≡ true)
+moved-own (calls.Move cpu) None refuses = refl
+moved-own (calls.Move cpu) (Some answer) refuses = refusal-own (calls.Move cpu) answer refuses
+moved-own _ None refuses = tt
+moved-own _ (Some answer) refuses = refuses
+
+pub own-answers : (s : State) (t : TaskId) (call : Call) (answer : Reply) (e : Event) → IsOwn s t call answer e → is_own call answer ≡ true
+own-answers s t call answer e is =
+    subst (λ (o : Option Reply). IfSome o (λ answer. is_own call answer ≡ true)) is.why (moved-own call (refusal_on (thread_part s t) call (called_lock call)) (private-refuses call _ _ _ _))
 
 -- which leaves what the thread holds
-pub refused_holds : (thread : ThreadPart) (call : Call) (answer : Reply) → is_refusal answer ≡ true → holds_after thread (Some call) answer ≡ thread.holds
+pub refused_holds : (thread : ThreadPart) (call : Call) (answer : Reply) → is_own call answer ≡ true → holds_after thread (Some call) answer ≡ thread.holds
 refused_holds thread (calls.Lock l) replies.Got refuses = cc
 refused_holds thread _ replies.Got refuses = cc
+refused_holds thread (calls.Move cpu) replies.Done refuses = refl
 refused_holds thread _ replies.Done refuses = cc
 refused_holds thread _ _ refuses = refl
 
@@ -125,7 +141,7 @@ holds_at thread call answer is = ap (λ (c : Option Call). holds_after thread c 
 
 -- nor does the answer of a short walk
 pub short_holds : (thread : ThreadPart) (u : TaskId) (answer : Reply) (call : Option Call) → IsPhaseOf (phases.Walk u (Short answer)) call → holds_after thread call answer ≡ thread.holds
-short_holds thread u answer (Some call) fits = to_come-holds (λ c a. holds_after thread (Some c) a ≡ thread.holds) call answer fits (λ l. refl) (λ l. refl) (λ l. refl) (λ l. refl) (λ l. refl) (λ l. refl) (λ v prio. refl)
+short_holds thread u answer (Some call) fits = to_come-holds (λ c a. holds_after thread (Some c) a ≡ thread.holds) call answer fits (λ l. refl) (λ l. refl) (λ l. refl) (λ l. refl) (λ l. refl) (λ l. refl) (λ l. refl) (λ v prio. refl)
 short_holds thread u answer None fits = absurd fits
 
 -- so a walk leaves what its thread holds
@@ -181,8 +197,8 @@ same_holds thread left l out is = record { here = unchanged thread left l out is
 -- ---- who gets an owner part, and who releases one
 
 -- the lock that a thread's call is about
-about : (thread : ThreadPart) (call : Call) → call_of thread ≡ Some call → present_lock thread ≡ called_lock thread.cpu call
-about thread call calling = ap (λ (c : Option Call). option_and_then (called_lock thread.cpu) c) calling
+about : (thread : ThreadPart) (call : Call) → call_of thread ≡ Some call → present_lock thread ≡ called_lock call
+about thread call calling = ap (λ (c : Option Call). option_and_then called_lock c) calling
 
 -- the thread of a call that has this answer, in some phase before
 abbrev With : ThreadPart → Phase → Reply → ThreadPart
@@ -206,7 +222,7 @@ module _ (s : State) (t : TaskId) (l : LockId) (room : l.0 < length (thread_part
   got call = writes_hold thread.phase call replies.Got (record (hold_of thread l) { owns = true })
 
   -- a step to a phase in which it has the inner lock
-  enters : (phase : Phase) (call : Call) → has_inner phase ≡ true → called_lock thread.cpu call ≡ Some l → (hold_of thread l).owns ≡ gives_back phase (Some call) → call_of thread ≡ Some call
+  enters : (phase : Phase) (call : Call) → has_inner phase ≡ true → called_lock call ≡ Some l → (hold_of thread l).owns ≡ gives_back phase (Some call) → call_of thread ≡ Some call
       → Leaves thread (record thread { phase = phase }) l true
   enters phase call has lock owns calling = on_way thread l phase has (about thread call calling ∙ lock) (owns ∙ ap (gives_back phase) (sym calling))
 
@@ -215,7 +231,7 @@ module _ (s : State) (t : TaskId) (l : LockId) (room : l.0 < length (thread_part
   acquired is unheld =
       subst (λ (c : Option Call). Leaves thread (Got thread c) l true) (sym is.calling)
       (acquiring-holds (λ c. call_of thread ≡ Some c → Leaves thread (Got thread (Some c)) l true) is.call l is.acquires
-      (got (calls.Lock l) refl) (got (calls.LockInt l) refl) (got (calls.Spin l) refl) (got (calls.TryLock l) refl) (got (calls.TrySpin l) refl)
+      (got (calls.Lock l) refl) (got (calls.LockInt l) refl) (got (calls.Spin l) refl) (got (calls.Local l) refl) (got (calls.TryLock l) refl) (got (calls.TrySpin l) refl)
       (enters phases.ReadIn (calls.Read l) refl refl unheld) (enters phases.Unbias (calls.Write l) refl refl unheld) (enters phases.Unbias (calls.TryWrite l) refl refl unheld) is.calling)
 
   -- a release
@@ -230,14 +246,14 @@ module _ (s : State) (t : TaskId) (l : LockId) (room : l.0 < length (thread_part
 
       by_how : ReturnsBy s t l is.call → Leaves thread (Freed (Some is.call)) l false
       by_how (from_hold releases at held) =
-          releases-holds (λ c. call_of thread ≡ Some c → Leaves thread (Freed (Some c)) l false) is.call l releases (done (calls.Unlock l) refl) (done (calls.Unspin l) refl) is.calling
+          releases-holds (λ c. call_of thread ≡ Some c → Leaves thread (Freed (Some c)) l false) is.call l releases (done (calls.Unlock l) refl) (done (calls.Unspin l) refl) (done (calls.Unlocal l) refl) is.calling
       by_how (from_inside ends at) =
           ends-holds (λ c. (hold_of thread l).owns ≡ gives_back phases.Release (Some c) → call_of thread ≡ Some c → Leaves thread (Freed (Some c)) l false) is.call l ends
           (λ owns calling. subst (Leaves thread (With thread thread.phase replies.Got) l) owns (writes_hold thread.phase (calls.Read l) replies.Got (record (hold_of thread l) { reads = (hold_of thread l).reads + 1 }) refl calling))
           (λ owns calling. subst (Leaves thread (With thread thread.phase replies.Busy) l) owns (same_holds thread (With thread thread.phase replies.Busy) l refl (holds_at thread (calls.TryWrite l) replies.Busy calling)))
           (λ owns. done (calls.Unwrite l) refl)
           (λ owns. writes_hold thread.phase (calls.Downgrade l) replies.Done (record { owns = false; reads = (hold_of thread l).reads + 1 }) refl)
-          (inside-gives s t l owners phases.Release is.call at refl (ends-called thread.cpu is.call l ends)) is.calling
+          (inside-gives s t l owners phases.Release is.call at refl (ends-called is.call l ends)) is.calling
 
 -- ---- readers and writers
 
@@ -276,7 +292,7 @@ steps s made t l e lawful reading = by_kind reading
     has phase call x is owned leaves = record { owns = true; was = sym owned; leaves = subst (λ (y : Event). Leaves thread (Left y) l true) (sym is.event) leaves; writers = λ its. refl }
 
     -- who is on its way goes on, or gets in
-    goes : (phase onward : Phase) (call : Call) (x : Event) → IsMade s t l phase call x e → has_inner phase ≡ true → has_inner onward ≡ true → called_lock thread.cpu call ≡ Some l
+    goes : (phase onward : Phase) (call : Call) (x : Event) → IsMade s t l phase call x e → has_inner phase ≡ true → has_inner onward ≡ true → called_lock call ≡ Some l
         → gives_back phase (Some call) ≡ gives_back onward (Some call) → Left x ≡ record thread { phase = onward } → Steps s t l e
     goes phase onward call x is inner still lock gives left =
         has phase call x is (inside-owned s t l lawful.owners phase call is.at inner lock)
@@ -284,12 +300,12 @@ steps s made t l e lawful reading = by_kind reading
 
     gets : (phase : Phase) (call : Call) (x : Event) → IsMade s t l phase call x e → has_inner phase ≡ true → Writes call l → Left x ≡ With thread thread.phase replies.Got → Steps s t l e
     gets phase call x is inner writes left =
-        has phase call x is (inside-owned s t l lawful.owners phase call is.at inner (writes-called thread.cpu call l writes))
+        has phase call x is (inside-owned s t l lawful.owners phase call is.at inner (writes-called call l writes))
         (subst (λ (th : ThreadPart). Leaves thread th l true) (sym left)
         (writes-holds (λ c. call_of thread ≡ Some c → Leaves thread (With thread thread.phase replies.Got) l true) call l writes (got s t l room (calls.Write l) refl) (got s t l room (calls.TryWrite l) refl) is.at.calling))
 
     -- who leaves, or downgrades, is on its way out
-    opens : (call : Call) (x : Event) → IsMade s t l phases.Start call x e → (hold_of thread l).owns ≡ true → called_lock thread.cpu call ≡ Some l → gives_back phases.Release (Some call) ≡ true
+    opens : (call : Call) (x : Event) → IsMade s t l phases.Start call x e → (hold_of thread l).owns ≡ true → called_lock call ≡ Some l → gives_back phases.Release (Some call) ≡ true
         → Left x ≡ record thread { phase = phases.Release } → Steps s t l e
     opens call x is held lock gives left =
         has phases.Start call x is (sym (outside-owned s t l lawful.owners phases.Start call is.at refl) ∙ held)
@@ -315,7 +331,7 @@ steps s made t l e lawful reading = by_kind reading
     by_kind (is_out is held) = stays _ _ _ is refl refl (out _ _ is.at.calling is.at.phased)
     by_kind (is_wwake is) = stays _ _ _ is refl refl (reads thread.phase (calls.Unread l) replies.Done ((hold_of thread l).reads - 1) refl is.at.calling)
     by_kind (is_let_in is) = goes _ phases.Release _ _ is refl refl refl refl (ap (λ (p : Phase). record thread { phase = phase_after_rin p }) is.at.phased)
-    by_kind (is_unbias call writes is) = goes _ phases.WTry _ _ is refl refl (writes-called thread.cpu call l writes) refl refl
+    by_kind (is_unbias call writes is) = goes _ phases.WTry _ _ is refl refl (writes-called call l writes) refl refl
     by_kind (is_sleep is cannot) = goes _ phases.WWait _ _ is refl refl refl refl refl
     by_kind (is_sleep_again is runs cannot) = goes _ phases.WWait _ _ is refl refl refl refl refl
     by_kind (is_given_up is cannot) = goes _ phases.Release _ _ is refl refl refl refl refl
@@ -422,7 +438,7 @@ OwnersLaw-next s made t e lawful next = by_kind next
 
     -- one that gets a lock has its owner part, and nobody had it
     acquiring-about : (l : LockId) → IsAcquiring s t l → present_lock thread ≡ Some l
-    acquiring-about l is = about thread is.call is.calling ∙ acquiring-called thread.cpu is.call l is.acquires
+    acquiring-about l is = about thread is.call is.calling ∙ acquiring-called is.call l is.acquires
 
     gets : (l : LockId) → t.0 < length s.threads → l.0 < length s.locks → IsAcquiring s t l → (owner_part s l).owner ≡ None → Leaves thread (Got thread (call_of thread)) l (owned_by (Some t) t)
     gets l task lock is none =
@@ -436,13 +452,13 @@ OwnersLaw-next s made t e lawful next = by_kind next
     frees l at = released s t l (holds_room s t l lawful.shape at.task at.lock) lawful.owners at
 
     freed-about : (l : LockId) → Returns s t l → present_lock thread ≡ Some l
-    freed-about l at = about thread at.call at.calling ∙ returning-called thread.cpu s t l at
+    freed-about l at = about thread at.call at.calling ∙ returning-called s t l at
 
     its_before : (l : LockId) → Returns s t l → (u : TaskId) → nat_eq t.0 u.0 ≡ false → false ≡ owned_by (owner_part s l).owner u
     its_before l at u other = sym (one_owner (owner_part s l).owner t u (returns-owned s t l lawful.owners at) other)
 
     by_kind : IsNext s t e → OwnersLaw (state_after s e)
-    by_kind (by_own call answer is) = keeps_holds s made e _ lawful is.event is.at.task (idle _ _ is.at refl) refl (holds_at thread call answer is.at.calling ∙ refused_holds thread call answer (own-refuses s t call answer e is)) refl
+    by_kind (by_own call answer is) = keeps_holds s made e _ lawful is.event is.at.task (idle _ _ is.at refl) refl (holds_at thread call answer is.at.calling ∙ refused_holds thread call answer (own-answers s t call answer e is)) refl
     by_kind (by_acquire l (is_mark is)) = keeps_holds s made e _ lawful is.event is.task (asks-out l is.how) refl refl refl
     by_kind (by_acquire l (is_busy is)) = keeps_holds s made e _ lawful is.event is.at.at.task (idle _ _ is.at.at refl) refl (busy-holds l is.at) refl
     by_kind (by_wait l (is_wait is)) = keeps_holds s made e _ lawful is.event is.at.at.task (idle _ _ is.at.at refl) (waits-out l (owner_part s l).owner _) refl refl
@@ -467,7 +483,7 @@ OwnersLaw-next s made t e lawful next = by_kind next
         let same : t ≡ e.task = sym (reading-task s t l e is) in
         let step : Steps s e.task l e = subst (λ (v : TaskId). Steps s v l e) same (steps s made t l e lawful is) in
         keeps_owner s made e e lawful refl (subst (λ (v : TaskId). v.0 < length s.threads) same at.at.task) l step.owns
-        (subst (λ (v : TaskId). present_lock (thread_part s v) ≡ Some l) same (present-at s t at.phase at.call (Some l) at.at (at.about thread.cpu))) step.was step.leaves
+        (subst (λ (v : TaskId). present_lock (thread_part s v) ≡ Some l) same (present-at s t at.phase at.call (Some l) at.at at.about)) step.was step.leaves
         (reading-kind (λ kind. changes_owner kind ≡ false) s t l e is (record { rin = refl; busy = refl; rout = refl; wwake = refl; unbias = refl; wtake = refl; wsleep = refl; wopen = refl }))
     by_kind (by_acquire l (is_fast is)) =
         let how = fast-acquiring s t l is.how in

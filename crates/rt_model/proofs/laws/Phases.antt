@@ -14,7 +14,7 @@ use Rattle.rt_model.specs.declared.phase.Route.TheVariants.{Full, Short}
 use Rattle.rt_model.specs.Parts.{TaskPart, ThreadPart, call_of}
 use Rattle.rt_model.specs.State.{State, shared, owner_part, task_part, thread_part}
 use Rattle.rt_model.specs.StateAfter.{thread_after, state_after}
-use Rattle.rt_model.specs.Stage.{waits, writes, releases_inner, IsPhaseOf}
+use Rattle.rt_model.specs.CallKinds.{waits, writes, releases_inner, IsPhaseOf}
 use Rattle.rt_model.specs.events.Wait.{phase_after_wait}
 use Rattle.rt_model.specs.steps.Chain.{followed, goes_on}
 use Rattle.rt_model.specs.steps.Task.{with_own}

@@ -200,7 +200,7 @@ reading_asks s made t l e lawful is =
     let thread = thread_part s t in
     reading-leaves (λ th. IfSome (asked_in th.phase (present_lock th)) (Free s t)) s t l e is (record {
       answered = λ phase answer. tt;
-      shut = λ at unheld. subst (λ (c : Option Call). IfSome (option_and_then (called_lock thread.cpu) c) (Free s t)) (sym at.calling) (sym (outside-owned s t l lawful.owners phases.Start (calls.Read l) at refl) ∙ unheld);
+      shut = λ at unheld. subst (λ (c : Option Call). IfSome (option_and_then called_lock c) (Free s t)) (sym at.calling) (sym (outside-owned s t l lawful.owners phases.Start (calls.Read l) at refl) ∙ unheld);
       last = λ at. tt;
       start = λ at. subst (λ (p : Phase). IfSome (asked_in p (present_lock thread)) (Free s t)) (sym at) tt;
       unbiased = λ call how at. tt;

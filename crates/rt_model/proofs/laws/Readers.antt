@@ -1,9 +1,8 @@
 -- A next event keeps the readers law.
-use Rattle.std.proofs.Common.{◌≡◌, ℕ, ◌+◌, ◌-◌, ◌<◌, ◌≤◌, Bool, true, false, cond, not, ◌&&◌, ◌||◌, List, [], length, refl, sym, ap, ◌∙◌, subst, arith, Option, Some, None, unwrap_or}
+use Rattle.std.proofs.Common.{◌≡◌, ℕ, ◌+◌, ◌<◌, ◌≤◌, Bool, true, false, cond, not, ◌&&◌, ◌||◌, List, [], length, refl, sym, ap, ◌∙◌, subst, arith, Option, Some, None, unwrap_or}
 use Rattle.std.specs.Prelude.{slice_get, slice_set, nat_eq, nat_lt, option_map}
 use Rattle.std.proofs.lemmas.Bool.{or_left, or_right}
 use Rattle.std.proofs.lemmas.Bool.Decides.{nat_tests}
-use Rattle.std.proofs.lemmas.Option.{slice_get_within}
 use Rattle.rt_base.specs.declared.call.Call.{Call}
 use Rattle.rt_base.specs.declared.call.Call.TheVariants as calls
 use Rattle.rt_base.specs.declared.id.LockId.{LockId}
@@ -22,7 +21,7 @@ use Rattle.rt_model.specs.declared.reader_cell.ReaderCell.{ReaderCell}
 use Rattle.rt_model.specs.Parts.{TaskPart, ThreadPart, call_of, hold_of, kind_of, has_readers}
 use Rattle.rt_model.specs.Choice.{called_lock, present_lock, is_on}
 use Rattle.rt_model.specs.State.{State, shared, no_readers, no_thread, owner_part, reader_part, task_part, thread_part}
-use Rattle.rt_model.specs.Stage.{IsForKind, HasReadersAt, IsPhaseOf}
+use Rattle.rt_model.specs.CallKinds.{IsForKind, HasReadersAt, IsPhaseOf}
 use Rattle.rt_model.specs.Effect.{around}
 use Rattle.rt_model.specs.Rules.{touched}
 use Rattle.rt_model.specs.StateAfter.{effect_in, shared_after, thread_after, state_after}
@@ -39,7 +38,7 @@ use Rattle.rt_model.proofs.ReaderCounts.{count-most}
 use Rattle.rt_model.proofs.Counts.{sum-update, sum-part}
 use Rattle.rt_model.proofs.Numbers.{number_itself, other_number, at_each_task, at_each_lock, one_owner, owner-is}
 use Rattle.rt_model.proofs.Looks.{Look, look, look_of, plain_look, writing, off, has_part, is_plain, plain-phase, plain-elsewhere, Facts, Turn, Flags, as_were, its_own, Quiet, quiet-turn, plain-quiet, got-quiet, released-quiet, woken-quiet, slept-quiet, read-turn, let_in-turn, out-turn, last-turn, unbias-turn, open-turn, written-turn}
-use Rattle.rt_model.proofs.Calling.{at_call, served_call, IsIn, Returns, ReturnsBy, from_hold, from_inside, tries-holds, releases-holds, ends-holds, Writes, writes_by, writes-holds, writes-called}
+use Rattle.rt_model.proofs.Calling.{at_call, served_call, IsIn, Returns, ReturnsBy, from_hold, from_inside, tries-holds, releases-holds, ends-holds, Writes, writes_by, writes-holds, writes-called, call-within}
 use Rattle.rt_model.proofs.Inside.{present-at, inside-gives, unowned-unheld}
 use Rattle.rt_model.proofs.events.Acquire.{is_fast, is_mark, is_take, is_busy, IsAcquiring, fast-acquiring, take-acquiring, asks-phased, fast-phased, take-phased, acquiring-holds}
 use Rattle.rt_model.proofs.events.Release.{is_free, is_give}
@@ -48,7 +47,7 @@ use Rattle.rt_model.proofs.events.Walk.{is_walk, is_walkend, is_restart, is_cycl
 use Rattle.rt_model.proofs.events.Wakeups.{is_state, is_sched, is_wake, is_signal}
 use Rattle.rt_model.proofs.NextEvents.{IsNext, by_own, by_acquire, by_wait, by_release, by_reading, by_walk, by_confirm, by_wakeup, by_setprio, task-IsNext}
 use Rattle.rt_model.proofs.laws.Migration.{call-fits, its_answer}
-use Rattle.rt_model.proofs.laws.Owners.{own-refuses, refused_holds, holds_at, short_holds, OwnersLaw-next}
+use Rattle.rt_model.proofs.laws.Owners.{own-answers, refused_holds, holds_at, short_holds, OwnersLaw-next}
 use Rattle.rt_model.proofs.Queues.{unowned-can_take}
 use Rattle.rt_model.proofs.Leaves.{IsLeft, by_leave, by_cycle, left_answer, left_kind, left_phase, left_made, left-is, left-asks, left-there, left-fits, left-thread, leave-left, cycle-left}
 use Rattle.rt_model.proofs.Links.{walked_thread, link-thread, end-thread, setprio-thread}
@@ -142,7 +141,7 @@ Within-next s made t e lawful next u =
     let moved = thread-phase e.kind e thread (around (shared s) (touched e.kind e)) (around (shared_after (shared s) thread e) (touched e.kind e)) thread in
     let calling : call_of thread ≡ Some at.call = subst (λ (v : TaskId). call_of (thread_part s v) ≡ Some at.call) (sym (task-IsNext s t e next)) at.calling in
     thread-made (λ v left. left.answered ≤ length left.calls) s e e u refl (at_call s e.task at.call calling).1
-    (subst (λ (left : ThreadPart). (answered_with left e.reply).answered ≤ length (answered_with left e.reply).calls) (sym moved) (replied _ e.reply (slice_get_within thread.calls thread.answered at.call calling))) (λ other. lawful.readers.within u)
+    (subst (λ (left : ThreadPart). (answered_with left e.reply).answered ≤ length (answered_with left e.reply).calls) (sym moved) (replied _ e.reply (call-within thread at.call calling))) (λ other. lawful.readers.within u)
   where
     thread : ThreadPart
     thread = thread_part s e.task
@@ -245,7 +244,7 @@ module _ (s : State) (made : ℕ) (t : TaskId) (lawful : IsLawful s made) where
   abbrev pub seen_in : LockId → Phase → Call → Look
   seen_in l phase call = look_of phase (Some call) true (has_readers (kind_of th l)) (hold_of th l) th.answered
 
-  module _ (l : LockId) (phase : Phase) (call : Call) (at : IsIn s t phase call) (about : called_lock th.cpu call ≡ Some l) where
+  module _ (l : LockId) (phase : Phase) (call : Call) (at : IsIn s t phase call) (about : called_lock call ≡ Some l) where
     on : is_on (present_lock th) l ≡ true
     on = ap (λ (lock : Option LockId). is_on lock l) (present-at s t phase call (Some l) at about) ∙ number_itself l.0
 
@@ -279,7 +278,7 @@ module _ (s : State) (made : ℕ) (t : TaskId) (lawful : IsLawful s made) where
       of_kind (Some k) is = let same : has_readers k ≡ true = cc in same
 
   pub fits : (call : Call) → call_of th ≡ Some call → IsForKind th.kinds call
-  fits call calling = call-fits s t call lawful.stage calling
+  fits call calling = call-fits s t call lawful.calls calling
 
   -- ---- events that change a lock's reader part at most
 
@@ -352,7 +351,7 @@ module _ (s : State) (made : ℕ) (t : TaskId) (lawful : IsLawful s made) where
 
     -- ---- a thread whose call is on a lock
 
-    module _ (l : LockId) (phase : Phase) (call : Call) (at : IsIn s t phase call) (about : called_lock th.cpu call ≡ Some l) where
+    module _ (l : LockId) (phase : Phase) (call : Call) (at : IsIn s t phase call) (about : called_lock call ≡ Some l) where
       turns-at : (x : Event) (left : ThreadPart) (cell : ReaderCell) → IsEvent x left → Cells l cell
           → (Facts (seen_in l phase call) (reader_part s l) → Turn (seen_in l phase call) (look left l) (reader_part s l) cell)
           → ((m : LockId) → nat_eq l.0 m.0 ≡ false → (hold_of th m).reads ≤ th.answered → Quiet (plain_at m) (look left m)) → ReadersLaw (state_after s e)
@@ -425,6 +424,7 @@ module _ (s : State) (made : ℕ) (t : TaskId) (lawful : IsLawful s made) where
     acquires x l is own there lt keeps none acquiring plain left =
         acquiring-holds Acquires acquiring.call l acquiring.acquires
         (got (calls.Lock l) locks.Mutex refl (λ fit. fit) refl (λ so. so) refl) (got (calls.LockInt l) locks.Mutex refl (λ fit. fit) refl (λ so. so) refl) (got (calls.Spin l) locks.Spin refl (λ fit. fit) refl (λ so. so) refl)
+        (got (calls.Local l) locks.Local refl (λ fit. fit) refl (λ so. so) refl)
         (got (calls.TryLock l) locks.Mutex refl (λ fit. fit) refl (λ so. so) refl) (got (calls.TrySpin l) locks.Spin refl (λ fit. fit) refl (λ so. so) refl)
         (onward (calls.Read l) phases.ReadIn refl (λ so. so) inside) (onward (calls.Write l) phases.Unbias refl (λ so. so) inside) (onward (calls.TryWrite l) phases.Unbias refl (λ so. so) inside)
         acquiring.calling (subst Left acquiring.calling left)
@@ -439,7 +439,7 @@ module _ (s : State) (made : ℕ) (t : TaskId) (lawful : IsLawful s made) where
         event left so = record { is = is; own = own; there = there; thread = so }
 
         at : (call : Call) → call_of th ≡ Some call → IsIn s t th.phase call
-        at call calling = record { calling = calling; phased = refl; task = there; served = served_call s t call lawful.stage calling }
+        at call calling = record { calling = calling; phased = refl; task = there; served = served_call s t call lawful.calls calling }
 
         rw : Bool
         rw = has_readers (kind_of th l)
@@ -453,14 +453,14 @@ module _ (s : State) (made : ℕ) (t : TaskId) (lawful : IsLawful s made) where
         inside : (hold_of th l).reads ≤ th.answered → Quiet (plain_at l) (look_of phases.Unbias None true rw (hold_of th l) th.answered)
         inside = got-quiet rw (hold_of th l) th.answered unheld
 
-        got : (call : Call) (k : Kind) → has_readers k ≡ false → (IsForKind th.kinds call → slice_get th.kinds l.0 ≡ Some k) → called_lock th.cpu call ≡ Some l → (Left (Some call) → Left None)
+        got : (call : Call) (k : Kind) → has_readers k ≡ false → (IsForKind th.kinds call → slice_get th.kinds l.0 ≡ Some k) → called_lock call ≡ Some l → (Left (Some call) → Left None)
             → holds_after th (Some call) replies.Got ≡ with_hold th l true → Acquires call
         got call k none fit about so holds calling left =
             ends-quiet l th.phase call (at call calling) about x th.phase replies.Got (record (hold_of th l) { owns = true }) (event _ (so left))
             (subst (Holding th l (record (hold_of th l) { owns = true })) (sym holds) (written l th.phase call (at call calling) about lt (record (hold_of th l) { owns = true }))) keeps
             (λ few. subst (λ (b : Look). Quiet b (after_at l (record (hold_of th l) { owns = true }))) (sym (was call)) (other-quiet rw true (hold_of th l) th.answered (other_kind l k (fit (fits call calling)) none) few))
 
-        onward : (call : Call) (p : Phase) → called_lock th.cpu call ≡ Some l → (Left (Some call) → thread_after (shared s) (thread_part s x.task) x ≡ record th { phase = p })
+        onward : (call : Call) (p : Phase) → called_lock call ≡ Some l → (Left (Some call) → thread_after (shared s) (thread_part s x.task) x ≡ record th { phase = p })
             → ((hold_of th l).reads ≤ th.answered → Quiet (plain_at l) (seen_in l p call)) → Acquires call
         onward call p about so quiet calling left =
             goes-quiet l th.phase call (at call calling) about x p (event _ (so left)) keeps
@@ -485,14 +485,14 @@ module _ (s : State) (made : ℕ) (t : TaskId) (lawful : IsLawful s made) where
         event : (left : ThreadPart) → thread_after (shared s) (thread_part s x.task) x ≡ left → IsEvent x left
         event left so = record { is = is; own = own; there = at.task; thread = so }
 
-        given_up : (call : Call) (k : Kind) → has_readers k ≡ false → (IsForKind th.kinds call → slice_get th.kinds l.0 ≡ Some k) → called_lock th.cpu call ≡ Some l → released_answer (Some call) ≡ replies.Done
+        given_up : (call : Call) (k : Kind) → has_readers k ≡ false → (IsForKind th.kinds call → slice_get th.kinds l.0 ≡ Some k) → called_lock call ≡ Some l → released_answer (Some call) ≡ replies.Done
             → holds_after th (Some call) replies.Done ≡ with_hold th l false → IsIn s t phases.Start call → Left call → ReadersLaw (state_after s e)
         given_up call k none fit about done holds here left =
             let hold : Hold = record (hold_of th l) { owns = false } in
             ends-quiet l phases.Start call here about x th.phase replies.Done hold (event _ (left ∙ ap (λ (a : Reply). answered_with th (Some a)) done)) (subst (Holding th l hold) (sym holds) (written l phases.Start call here about at.lock hold)) keeps
             (other-quiet rw false (hold_of th l) th.answered (other_kind l k (fit (fits call here.calling)) none))
 
-        passed : (call : Call) (hold : Hold) (coming : ℕ) → called_lock th.cpu call ≡ Some l → (l.0 < length s.locks → IsIn s t phases.Release call → Holding th l hold (holds_after th (Some call) (released_answer (Some call))))
+        passed : (call : Call) (hold : Hold) (coming : ℕ) → called_lock call ≡ Some l → (l.0 < length s.locks → IsIn s t phases.Release call → Holding th l hold (holds_after th (Some call) (released_answer (Some call))))
             → (gives_back phases.Release (Some call) ≡ (hold_of th l).owns → hold.owns ≡ false) → hold.reads ≡ (hold_of th l).reads + coming → coming ≤ 1
             → (Quiet (record (plain_at l) { inside = true; coming = coming }) (after_at l hold) → Quiet (seen_in l phases.Release call) (after_at l hold))
             → IsIn s t phases.Release call → Left call → ReadersLaw (state_after s e)
@@ -503,7 +503,8 @@ module _ (s : State) (made : ℕ) (t : TaskId) (lawful : IsLawful s made) where
         by_how : ReturnsBy s t l at.call → ReadersLaw (state_after s e)
         by_how (from_hold how here held) =
             releases-holds (λ c. IsIn s t phases.Start c → Left c → ReadersLaw (state_after s e)) at.call l how
-            (given_up (calls.Unlock l) locks.Mutex refl (λ fit. fit) refl refl refl) (given_up (calls.Unspin l) locks.Spin refl (λ fit. fit) refl refl refl) here so
+            (given_up (calls.Unlock l) locks.Mutex refl (λ fit. fit) refl refl refl) (given_up (calls.Unspin l) locks.Spin refl (λ fit. fit) refl refl refl)
+            (given_up (calls.Unlocal l) locks.Local refl (λ fit. fit) refl refl refl) here so
         by_how (from_inside how here) =
             ends-holds (λ c. IsIn s t phases.Release c → Left c → ReadersLaw (state_after s e)) at.call l how
             (passed (calls.Read l) (record (hold_of th l) { reads = (hold_of th l).reads + 1 }) 1 refl (λ lt here. written l phases.Release (calls.Read l) here refl lt _) (λ is. sym is) refl (omega arith) (λ quiet. quiet))
@@ -549,7 +550,7 @@ module _ (s : State) (made : ℕ) (t : TaskId) (lawful : IsLawful s made) where
     not_set false is = refl
 
     -- a reader gets in at its call's start
-    comes : (l : LockId) (call : Call) → IsMade s t l phases.Start call (rin_event t l (Some replies.Got)) e → called_lock th.cpu call ≡ Some l → holds_after th (Some call) replies.Got ≡ with_read th l
+    comes : (l : LockId) (call : Call) → IsMade s t l phases.Start call (rin_event t l (Some replies.Got)) e → called_lock call ≡ Some l → holds_after th (Some call) replies.Got ≡ with_read th l
         → (Facts (plain_at l) (reader_part s l) → (reader_part s l).writer ≡ false) → ReadersLaw (state_after s e)
     comes l call is about holds none =
         let hold : Hold = record (hold_of th l) { reads = (hold_of th l).reads + 1 } in
@@ -564,7 +565,7 @@ module _ (s : State) (made : ℕ) (t : TaskId) (lawful : IsLawful s made) where
         → Turn (seen_in l phase call) (after_at l (record (hold_of th l) { owns = true })) (reader_part s l) (with_writer (reader_part s l)))
         → ReadersLaw (state_after s e)
     gets_in l phase call x writes is own left cells turn =
-        let about : called_lock th.cpu call ≡ Some l = writes-called th.cpu call l writes in
+        let about : called_lock call ≡ Some l = writes-called call l writes in
         let hold : Hold = record (hold_of th l) { owns = true } in
         let its : Holding th l hold (with_hold th l true) = written l phase call is.at about is.lock hold in
         ends l phase call is.at about x th.phase replies.Got hold (with_writer (reader_part s l)) (made-event _ l _ _ _ is own left)
@@ -572,7 +573,7 @@ module _ (s : State) (made : ℕ) (t : TaskId) (lawful : IsLawful s made) where
         (λ known. turn known (reader_kind l (writes-holds (λ c. IsForKind th.kinds c → HasReadersAt th.kinds l.0) call l writes (λ fit. fit) (λ fit. fit) (fits call is.at.calling))))
 
     -- a writer leaves, or gives up its way in, with so many readers more
-    opens : (l : LockId) (phase : Phase) (call : Call) (value coming : ℕ) → IsMade s t l phase call (wopen_event t l value) e → called_lock th.cpu call ≡ Some l → (seen_in l phases.Release call).coming ≡ coming
+    opens : (l : LockId) (phase : Phase) (call : Call) (value coming : ℕ) → IsMade s t l phase call (wopen_event t l value) e → called_lock call ≡ Some l → (seen_in l phases.Release call).coming ≡ coming
         → (without_writer (nat_eq value 1) (reader_part s l)).count ≡ (reader_part s l).count + coming → (without_writer (nat_eq value 1) (reader_part s l)).bias ≡ true → (without_writer (nat_eq value 1) (reader_part s l)).writer ≡ false
         → (seen_in l phase call).coming ≡ 0 → (seen_in l phase call).going ≡ 0 → has_part (seen_in l phase call) ≡ true → ReadersLaw (state_after s e)
     opens l phase call value coming is about more count bias writer none also owns =
@@ -599,7 +600,7 @@ module _ (s : State) (made : ℕ) (t : TaskId) (lawful : IsLawful s made) where
         ends-quiet l phases.WakeWriter (calls.Unread l) is.at refl _ th.phase replies.Done _ (made-event _ l _ _ _ is refl refl) (written l phases.WakeWriter (calls.Unread l) is.at refl is.lock _) refl
         (woken-quiet (has_readers (kind_of th l)) (hold_of th l) th.answered)
     reads l (is_unbias call writes is) =
-        goes l phases.Unbias call is.at (writes-called th.cpu call l writes) _ phases.WTry (unbiased (reader_part s l)) (made-event _ l _ _ _ is refl refl) (changed l _ is.event refl is.lock)
+        goes l phases.Unbias call is.at (writes-called call l writes) _ phases.WTry (unbiased (reader_part s l)) (made-event _ l _ _ _ is refl refl) (changed l _ is.event refl is.lock)
         (unbias-turn (has_readers (kind_of th l)) (hold_of th l) th.answered (reader_part s l))
     reads l (is_in call writes is can) = gets_in l phases.WTry call _ writes is refl refl (changed l _ is.event refl is.lock) (λ known rw. written-turn (has_readers (kind_of th l)) (hold_of th l) th.answered (reader_part s l) rw can known)
     reads l (is_in_late is runs can) =
@@ -614,8 +615,11 @@ module _ (s : State) (made : ℕ) (t : TaskId) (lawful : IsLawful s made) where
 
     -- ---- all others
 
+    moved-with : (p : Phase) (count : ℕ) → is_plain p ≡ true → is_plain th.phase ≡ true → Keeps (record th { phase = p; migration = count })
+    moved-with p count after before = record { before = before; after = after; kinds = refl; holds = refl; more = omega arith }
+
     moved : (p : Phase) → is_plain p ≡ true → is_plain th.phase ≡ true → Keeps (record th { phase = p })
-    moved p after before = record { before = before; after = after; kinds = refl; holds = refl; more = omega arith }
+    moved p after before = moved-with p th.migration after before
 
     answered : (p : Phase) (answer : Reply) → holds_after (record th { phase = p }) (call_of th) answer ≡ th.holds → is_plain th.phase ≡ true → Keeps (answered_with (record th { phase = p }) (Some answer))
     answered p answer holds before = record { before = before; after = refl; kinds = refl; holds = holds; more = omega arith }
@@ -630,7 +634,7 @@ module _ (s : State) (made : ℕ) (t : TaskId) (lawful : IsLawful s made) where
         plain-event x (walked_thread th route (goes_on t onward owner task)) is own there keeps so
         (walked-holds (λ r left. IsPhaseOf (phases.Walk u r) (call_of th) → Keeps left) th t route onward owner task sort
         (λ path f. moved phases.Wait refl before) (λ path rest f. moved (phases.Confirm rest) refl before) (λ path rest o f. moved (phases.Walk o (Full rest)) refl before)
-        (λ answer f. answered phases.Start answer (short_holds (record th { phase = phases.Start }) u answer (call_of th) f) before) (λ answer o f. moved (phases.Walk o (Short answer)) refl before) fit)
+        (λ answer f. answered phases.Wait answer (short_holds (record th { phase = phases.Wait }) u answer (call_of th) f) before) (λ answer o f. moved (phases.Walk o (Short answer)) refl before) fit)
 
     -- one that leaves a queue
     unqueues : (l : LockId) → IsLeft s t l e → ReadersLaw (state_after s e)
@@ -662,9 +666,9 @@ module _ (s : State) (made : ℕ) (t : TaskId) (lawful : IsLawful s made) where
 
     by_kind : IsNext s t e → ReadersLaw (state_after s e)
     by_kind (by_own call answer is) =
-        plain-event _ _ is.event refl is.at.task refl refl (answered th.phase answer (holds_at th call answer is.at.calling ∙ refused_holds th call answer (own-refuses s t call answer e is)) (ap is_plain is.at.phased))
+        plain-event _ _ is.event refl is.at.task refl refl (answered th.phase answer (holds_at th call answer is.at.calling ∙ refused_holds th call answer (own-answers s t call answer e is)) (ap is_plain is.at.phased))
     by_kind (by_acquire l (is_fast is)) = acquires _ l is.event refl is.task is.lock refl is.owner (fast-acquiring s t l is.how) (fast-phased IsPlain s t l is.how refl refl) refl
-    by_kind (by_acquire l (is_mark is)) = plain-event _ _ is.event refl is.task refl refl (moved phases.Slow refl (asks-phased IsPlain s t l is.how refl refl))
+    by_kind (by_acquire l (is_mark is)) = plain-event _ _ is.event refl is.task refl refl (moved-with phases.Slow _ refl (asks-phased IsPlain s t l is.how refl refl))
     by_kind (by_acquire l (is_take is)) =
         acquires _ l is.event refl is.task is.lock refl (unowned-can_take t (kind_of th l) (owner_part s l) (task_part s t) is.can) (take-acquiring s t l is.how) (take-phased IsPlain s t l is.how refl refl refl) refl
     by_kind (by_acquire l (is_busy is)) =

@@ -24,13 +24,13 @@ use Rattle.rt_model.proofs.Calm.{wakeup-kind, wakeup-at}
 use Rattle.rt_model.proofs.CellStepLemmas.{where_changed-blocked}
 use Rattle.rt_model.proofs.Idle.{IsIdle, asks-idle, acquires-idle, returns-idle, idle-unblocked}
 use Rattle.rt_model.proofs.Leaves.{IsLeft, leave-left, cycle-left, left-own_blocked, left-locks}
-use Rattle.rt_model.proofs.Links.{link_lock, link_owner, link_next, link-thread}
+use Rattle.rt_model.proofs.Links.{link_lock, link_owner, link_next, link-thread, walked_thread}
 use Rattle.rt_model.proofs.NextEvents.{IsNext, by_own, by_acquire, by_wait, by_release, by_reading, by_walk, by_confirm, by_wakeup, by_setprio, task-IsNext}
 use Rattle.rt_model.proofs.Numbers.{at_each_task}
 use Rattle.rt_model.proofs.Owned.{changes_owner, owners-kept}
 use Rattle.rt_model.proofs.PartsAfter.{lock-made, thread-own, thread-other}
 use Rattle.rt_model.proofs.Reading.{reading-kind, reading-was_idle}
-use Rattle.rt_model.proofs.Routes.{walked-phase}
+use Rattle.rt_model.proofs.Routes.{full-phase}
 use Rattle.rt_model.proofs.Waiters.{blocking, not_blocking, start-blocked, awaited}
 use Rattle.rt_model.proofs.events.Acquire.{IsAcquire, is_fast, is_mark, is_take, is_busy}
 use Rattle.rt_model.proofs.events.Release.{IsRelease, is_free, is_give}
@@ -42,7 +42,7 @@ use Rattle.rt_model.proofs.graph.Kept.{is_full, KeepsWalk, same_phase, no_walk, 
 -- how a full walk goes on after a link: at the lock's owner, which is blocked on the lock on which it was
 pub full-link : (s : State) (made : ℕ) (t : TaskId) (route : Route) (u : TaskId) (l : LockId) (key : ℕ) (e : Event) (path : List (ℕ × ℕ)) → IsLawful s made → route ≡ Full path → IsWalk s t route u l key e
     → (task : TaskPart) × (blocked_lock task ≡ blocked_lock (task_at (shared s) (owner_part s l).owner))
-    × ((thread_part (state_after s e) t).phase ≡ phase_of_walk (Full path) (goes_on t (Full (path ++ (u.0, l.0) ∷ [])) (owner_part s l).owner task))
+    × ((thread_part (state_after s e) t).phase ≡ phase_of_walk (goes_on t (Full (path ++ (u.0, l.0) ∷ [])) (owner_part s l).owner task))
 full-link s made t route u l key e path lawful full is =
     let next : Option Phase = link_next s made t route u l key e lawful is in
     let owner : TaskPart = task_at (shared s) (owner_part s l).owner in
@@ -50,7 +50,7 @@ full-link s made t route u l key e path lawful full is =
       task,
       ap blocking (where_changed-blocked (Some l) (owner_part s l).rows (link_lock s made t route u l key e lawful is).rows owner),
       ap (λ (th : ThreadPart). th.phase) (thread-own s e _ is.event is.task ∙ link-thread s made t route u l key e lawful is)
-          ∙ (walked-phase (thread_part s t) route next ∙ ap (λ (r : Route). phase_of_walk r (goes_on t (followed u l r) (owner_part s l).owner task)) full),
+          ∙ (ap (λ (r : Route). (walked_thread (thread_part s t) r next).phase) full ∙ (full-phase (thread_part s t) path next ∙ ap (λ (r : Route). phase_of_walk (goes_on t (followed u l r) (owner_part s l).owner task)) full)),
     )
 
 module _ (s : State) (made : ℕ) (t : TaskId) (e : Event) (lawful : IsLawful s made) (next : IsNext s t e) where

@@ -6,6 +6,7 @@ use Rattle.rt_base.specs.Kind.{spins}
 use Rattle.rt_base.specs.Script.{Script}
 use Rattle.rt_base.specs.declared.call.Call.{Call}
 use Rattle.rt_base.specs.declared.call.Call.TheVariants as calls
+use Rattle.rt_base.specs.declared.id.Cpu.{Cpu}
 use Rattle.rt_base.specs.declared.id.TaskId.{TaskId}
 use Rattle.rt_base.specs.declared.kind.Kind.{Kind}
 use Rattle.rt_base.specs.declared.limits.TheConstants.{MAX_CALLS}
@@ -14,8 +15,9 @@ use Rattle.rt_base.specs.declared.reply.Reply.TheVariants as replies
 use Rattle.rt_model.specs.declared.event.Event.{Event}
 use Rattle.rt_model.specs.declared.event_kind.EventKind.{EventKind}
 use Rattle.rt_model.specs.declared.event_kind.EventKind.TheVariants as kinds
+use Rattle.rt_model.specs.declared.phase.Phase.{Phase}
 use Rattle.rt_model.specs.declared.row.Row.{Row}
-use Rattle.rt_model.specs.Parts.{OwnerPart, TaskPart, ThreadPart, call_of, effective_of, kind_named}
+use Rattle.rt_model.specs.Parts.{OwnerPart, TaskPart, ThreadPart, made_on, call_of, effective_of, kind_named}
 use Rattle.rt_model.specs.Rows.{is_of}
 use Rattle.rt_model.specs.State.{State, Shared, shared, thread_part, kinds_in}
 use Rattle.rt_model.specs.steps.Lock.{left_by}
@@ -24,10 +26,11 @@ use Rattle.rt_model.specs.steps.Chain.{requeued_where_old}
 use Rattle.rt_model.specs.Effect.{Touched, Around, Effect, around}
 use Rattle.rt_model.specs.Rules.{touched, effect}
 use Rattle.rt_model.specs.StateAfter.{update, effect_in, lock_left, tasks_left, shared_after, thread_after, state_after}
-use Rattle.rt_model.specs.steps.Thread.{holds_after, answered_with}
-use Rattle.rt_model.specs.Stage.{IsServed, IsForKind, IsStaged}
+use Rattle.rt_model.specs.steps.Thread.{holds_after, cpu_after, answered_with}
+use Rattle.rt_model.specs.CallKinds.{IsServed, IsForKind, MovesWithin, OnEachCpu, CallsFit}
 use Rattle.rt_model.specs.laws.Shape.{calls_of, IsShaped, IsOf, IsWithin}
-use Rattle.rt_model.proofs.Lists.{length-update, All-update, All-default, length-at_lock, length-at_task, All-at_lock, All-at_task}
+use Rattle.rt_model.proofs.Lists.{length-update, All-at, All-update, All-default, length-at_lock, length-at_task, All-at_lock, All-at_task}
+use Rattle.rt_model.proofs.Calling.{made-of}
 use Rattle.rt_model.proofs.Queues.{All-insert_row}
 use Rattle.rt_model.proofs.CellStepLemmas.{restored-like, leave_queue-like, interrupted-like, blocked_on-like, writer_rests-like, woken_by-like, lock_woken-like, length-with_top, length-where_changed}
 use Rattle.rt_model.proofs.Links.{requeued-owner}
@@ -48,11 +51,15 @@ KeptFits n task = length task.kept ≡ n
 abbrev pub KindsFit : ℕ → ThreadPart → Type 0
 KindsFit n thread = length thread.kinds ≡ n
 
-abbrev pub AreServed : ℕ → ℕ → ThreadPart → Type 0
-AreServed m n thread = All (IsServed m n) thread.calls
+abbrev pub AreServed : ℕ → ℕ → ℕ → ThreadPart → Type 0
+AreServed cpus m n thread = All (OnEachCpu cpus (IsServed m n)) thread.calls
 
-abbrev pub AreFit : ThreadPart → Type 0
-AreFit thread = All (IsForKind thread.kinds) thread.calls
+abbrev pub AreFit : ℕ → ThreadPart → Type 0
+AreFit cpus thread = All (OnEachCpu cpus (IsForKind thread.kinds)) thread.calls
+
+-- it is on one of so many processors, and stays on these
+abbrev pub StaysOn : ℕ → ThreadPart → Type 0
+StaysOn cpus thread = (thread.cpu.0 < cpus) × All (MovesWithin cpus) thread.calls
 
 abbrev pub KnowsKinds : List Kind → ThreadPart → Type 0
 KnowsKinds known thread = thread.kinds ≡ known
@@ -110,11 +117,16 @@ fits-others n _ e th found lock = record { owner = λ task fits. fits; other = �
 
 -- ---- a thread
 
--- what an event leaves as it was
+-- the thread is on the processor that it was on, or its call has moved it to this one
+pub data GoesTo (before : ThreadPart) (after : Cpu) : Type 0 where
+  stays : after ≡ before.cpu → GoesTo before after
+  moves : (to : Cpu) → call_of before ≡ Some (calls.Move to) → after ≡ to → GoesTo before after
+
+-- what an event leaves of a thread
 pub record KeepsThread (before after : ThreadPart) : Type 0 where
   pub kinds : after.kinds ≡ before.kinds
   pub calls : after.calls ≡ before.calls
-  pub cpu : after.cpu ≡ before.cpu
+  pub cpu : GoesTo before after.cpu
   pub holds : length after.holds ≡ length before.holds
 
 length-holds_after : (thread : ThreadPart) (call : Option Call) (answer : Reply) → length (holds_after thread call answer) ≡ length thread.holds
@@ -132,27 +144,48 @@ length-holds_after thread (Some (calls.Write l)) replies.Got = simp length-set
 length-holds_after thread (Some (calls.TryWrite l)) replies.Got = simp length-set
 length-holds_after thread (Some (calls.Unwrite l)) replies.Done = simp length-set
 length-holds_after thread (Some (calls.Downgrade l)) replies.Done = simp length-set
+length-holds_after thread (Some (calls.Local l)) replies.Got = simp length-set
+length-holds_after thread (Some (calls.Unlocal l)) replies.Done = simp length-set
 length-holds_after thread call answer = refl
 
-answer-left : (thread : ThreadPart) (reply : Option Reply) → KeepsThread thread (answered_with thread reply)
-answer-left thread None = record { kinds = refl; calls = refl; cpu = refl; holds = refl }
-answer-left thread (Some answer) = record { kinds = refl; calls = refl; cpu = refl; holds = length-holds_after thread (call_of thread) answer }
+cpu-after : (thread : ThreadPart) (call : Option Call) (answer : Reply) → call_of thread ≡ call → GoesTo thread (cpu_after call answer thread.cpu)
+cpu-after thread (Some (calls.Move to)) replies.Done is = moves to is refl
+cpu-after thread _ _ is = stays refl
+
+answer-left : (thread : ThreadPart) (phase : Phase) (count : ℕ) (reply : Option Reply) → KeepsThread thread (answered_with (record thread { phase = phase; migration = count }) reply)
+answer-left thread phase count None = record { kinds = refl; calls = refl; cpu = stays refl; holds = refl }
+answer-left thread phase count (Some answer) = record {
+  kinds = refl;
+  calls = refl;
+  cpu = cpu-after thread (call_of thread) answer refl;
+  holds = length-holds_after (record thread { phase = phase; migration = count }) (call_of thread) answer;
+}
 
 pub thread-keeps : (sh : Shared) (th : ThreadPart) (e : Event) → KeepsThread th (thread_after sh th e)
 thread-keeps sh th e =
     let left = around (shared_after sh th e) (touched e.kind e) in
     let moved = thread-phase e.kind e th (around sh (touched e.kind e)) left th in
-    let answered = answer-left ((effect_in sh th e).thread left th) e.reply in
-    record {
-      kinds = answered.kinds ∙ ap (λ (thread : ThreadPart). thread.kinds) moved;
-      calls = answered.calls ∙ ap (λ (thread : ThreadPart). thread.calls) moved;
-      cpu = answered.cpu ∙ ap (λ (thread : ThreadPart). thread.cpu) moved;
-      holds = answered.holds ∙ ap (λ (thread : ThreadPart). length thread.holds) moved;
-    }
+    subst (λ (thread : ThreadPart). KeepsThread th (answered_with thread e.reply)) (sym moved) (answer-left th ((effect_in sh th e).thread left th).phase ((effect_in sh th e).thread left th).migration e.reply)
 
 -- calls that fit the kinds fit the same kinds
-fits-still : (before after : ThreadPart) → after.kinds ≡ before.kinds → after.calls ≡ before.calls → AreFit before → AreFit after
-fits-still before after kinds calls fits = subst (λ (ks : List Kind). All (IsForKind ks) after.calls) (sym kinds) (subst (λ (cs : List Call). All (IsForKind before.kinds) cs) (sym calls) fits)
+fits-still : (cpus : ℕ) (before after : ThreadPart) → after.kinds ≡ before.kinds → after.calls ≡ before.calls → AreFit cpus before → AreFit cpus after
+fits-still cpus before after kinds calls fits =
+    subst (λ (ks : List Kind). All (OnEachCpu cpus (IsForKind ks)) after.calls) (sym kinds) (subst (λ (cs : List Call). All (OnEachCpu cpus (IsForKind before.kinds)) cs) (sym calls) fits)
+
+-- a `move` is to the processor that it names, wherever it is made
+pub made-moves : (cpus : ℕ) (cpu : Cpu) (call : Call) → MovesWithin cpus call → MovesWithin cpus (made_on cpu call)
+made-moves cpus cpu (calls.Move to) within = within
+made-moves cpus cpu _ within = tt
+
+stays-still : (cpus : ℕ) (before after : ThreadPart) → KeepsThread before after → StaysOn cpus before → StaysOn cpus after
+stays-still cpus before after keeps on = (by_move keeps.cpu, subst (All (MovesWithin cpus)) (sym keeps.calls) on.1)
+  where
+    by_move : GoesTo before after.cpu → after.cpu.0 < cpus
+    by_move (stays same) = subst (λ (cpu : Cpu). cpu.0 < cpus) (sym same) on.0
+    by_move (moves to calling same) =
+        let made = made-of before (calls.Move to) calling in
+        let within : MovesWithin cpus made.listed = All-at (MovesWithin cpus) before.calls before.answered made.listed on.1 made.at in
+        subst (λ (cpu : Cpu). cpu.0 < cpus) (sym same) (subst (MovesWithin cpus) (sym made.made) (made-moves cpus before.cpu made.listed within))
 
 -- ---- the state
 
@@ -192,14 +225,20 @@ module _ (s : State) (e : Event) (lt : e.task.0 < length s.threads) where
   few_calls : calls_of s.threads ≤ MAX_CALLS → calls_of (state_after s e).threads ≤ MAX_CALLS
   few_calls few = subst (λ (n : ℕ). n ≤ MAX_CALLS) (sym (ap sum (map-write (λ (thread : ThreadPart). length thread.calls) s.threads e.task.0 _ _ (ap length (thread-keeps (shared s) (thread_part s e.task) e).calls)))) few
 
-  -- how far the stage goes
-  pub IsStaged-after : IsStaged s → IsStaged (state_after s e)
-  IsStaged-after staged = record {
-    served = subst (λ (k : ℕ). All (AreServed k (length (state_after s e).locks)) (state_after s e).threads) (sym threads)
-        (subst (λ (k : ℕ). All (AreServed (length s.threads) k) (state_after s e).threads) (sym locks)
-        (threads-keep (AreServed (length s.threads) (length s.locks)) (λ after is was. subst (All (IsServed (length s.threads) (length s.locks))) (sym is.calls) was) staged.served));
-    fit = threads-keep AreFit (λ after is was. fits-still (thread_part s e.task) after is.kinds is.calls was) staged.fit;
-  }
+  -- its calls fit
+  pub CallsFit-after : CallsFit s → CallsFit (state_after s e)
+  CallsFit-after fits =
+      let n : ℕ = fits.cpus in
+      let on = threads-keep (StaysOn n) (λ after is was. stays-still n (thread_part s e.task) after is was) (λ i d lt. (fits.on i d lt, fits.moves i d lt)) in
+      record {
+        cpus = n;
+        on = λ i d lt. (on i d lt).0;
+        moves = λ i d lt. (on i d lt).1;
+        served = subst (λ (k : ℕ). All (AreServed n k (length (state_after s e).locks)) (state_after s e).threads) (sym threads)
+            (subst (λ (k : ℕ). All (AreServed n (length s.threads) k) (state_after s e).threads) (sym locks)
+            (threads-keep (AreServed n (length s.threads) (length s.locks)) (λ after is was. subst (All (OnEachCpu n (IsServed (length s.threads) (length s.locks)))) (sym is.calls) was) fits.served));
+        fit = threads-keep (AreFit n) (λ after is was. fits-still n (thread_part s e.task) after is.kinds is.calls was) fits.fit;
+      }
 
 -- an event that names what is there leaves lists that fit together
 pub IsShaped-after : (s : State) (e : Event) → IsWithin (length s.threads) (length s.locks) e → IsShaped s → IsShaped (state_after s e)

@@ -196,7 +196,7 @@ module _ (s : State) (made : ℕ) (t : TaskId) (e : Event) (lawful : IsLawful s 
     there = (reading-in s t l e is).at.task
 
     here : present_lock (thread_part s t) ≡ Some l
-    here = let at = reading-in s t l e is in present-at s t at.phase at.call (Some l) at.at (at.about (thread_part s t).cpu)
+    here = let at = reading-in s t l e is in present-at s t at.phase at.call (Some l) at.at at.about
 
     unblocked : (task_part s t).blocked ≡ None
     unblocked = reading-unblocked s made t l e lawful is

@@ -1,11 +1,12 @@
 -- What a next event makes of what is seen of a task, and of its two fields, is what the flat wakeup machine makes of them.
-use Rattle.std.proofs.Common.{◌≡◌, ◌≢◌, ◌⊎◌, inl, inr, ℕ, zero, suc, ◌<◌, Bool, true, false, cond, not, ◌||◌, List, [], ◌∷◌, length, map, refl, sym, ap, ◌∙◌, subst, Option, Some, None, unwrap_or}
+use Rattle.std.proofs.Common.{◌≡◌, ◌≢◌, ◌⊎◌, inl, inr, ℕ, zero, suc, ◌<◌, Bool, true, false, cond, not, ◌||◌, List, [], ◌∷◌, length, map, refl, sym, ap, ◌∙◌, subst, Option, Some, None, unwrap_or, option_map}
 use Rattle.std.specs.Prelude.{is_some, nat_eq, slice_get}
 use Rattle.std.proofs.lemmas.Bool.{cond-true, cond-false, or_from, or_left, or_right}
 use Rattle.rt_base.specs.Kind.{spins}
 use Rattle.rt_base.specs.Script.{Script, TaskLine, LockLine, task_line, lock_line}
 use Rattle.rt_base.specs.declared.call.Call.{Call}
 use Rattle.rt_base.specs.declared.call.Call.TheVariants as calls
+use Rattle.rt_base.specs.declared.id.Cpu.{Cpu}
 use Rattle.rt_base.specs.declared.id.LockId.{LockId}
 use Rattle.rt_base.specs.declared.id.TaskId.{TaskId}
 use Rattle.rt_base.specs.declared.kind.Kind.{Kind}
@@ -20,7 +21,7 @@ use Rattle.rt_model.specs.declared.phase.Phase.{Phase}
 use Rattle.rt_model.specs.declared.phase.Phase.TheVariants as phases
 use Rattle.rt_model.specs.declared.phase.Route.{Route}
 use Rattle.rt_model.specs.Choice.{bare, called_lock}
-use Rattle.rt_model.specs.Parts.{OwnerPart, TaskPart, ThreadPart, call_of, kind_of, kind_named}
+use Rattle.rt_model.specs.Parts.{OwnerPart, TaskPart, ThreadPart, call_of, kind_of, kind_named, made_on}
 use Rattle.rt_model.specs.Rows.{top_key}
 use Rattle.rt_model.specs.State.{State, shared, kinds_in, no_thread, owner_part, task_part, thread_part}
 use Rattle.rt_model.specs.events.Readers.{wtake_event, wsleep_event, wwake_event, writer_rests}
@@ -65,6 +66,13 @@ read-seen : {X Y : Type 0} (f : X → Y) (xs : List X) (i : ℕ) (d : X) → unw
 read-seen f [] i d = refl
 read-seen f (x ∷ xs) zero d = refl
 read-seen f (x ∷ xs) (suc i) d = read-seen f xs i d
+
+-- a call sleeps in one state, wherever it is made
+made-sleeps : (cpu : Cpu) (call : Option Call) → sleep_of (option_map (made_on cpu) call) ≡ sleep_of call
+made-sleeps cpu None = refl
+made-sleeps cpu (Some (calls.Local l)) = refl
+made-sleeps cpu (Some (calls.Unlocal l)) = refl
+made-sleeps cpu (Some _) = refl
 
 module _ (script : Script) (s : State) (scripted : IsOf script s) (t : TaskId) where
   -- its threads know the kinds of the script's locks
@@ -262,7 +270,7 @@ module _ (s : State) (made : ℕ) (e : Event) (lawful : IsLawful s made) (next :
       waits_no_more x is ends none (up (ap (λ (y : Event). of_sleeper y.kind) is ∙ other)).after
 
   -- a writer that gets in is blocked on nothing, and its call is answered
-  writer_waits : (l : LockId) (phase : Phase) (call : Call) (slept : Option TaskId) → IsMade s e.task l phase call (wtake_event e.task l slept) e → awaited_in phase (called_lock (thread_part s e.task).cpu call) ≡ None
+  writer_waits : (l : LockId) (phase : Phase) (call : Call) (slept : Option TaskId) → IsMade s e.task l phase call (wtake_event e.task l slept) e → awaited_in phase (called_lock call) ≡ None
       → waiting_after e.kind waited ≡ waits_then
   writer_waits l phase call slept is idle =
       waits_no_more _ is.event refl (blocked-kept s e _ e.task is.event refl ∙ idle-blocked s made e.task lawful phase call is.at idle) (ap (λ (thread : ThreadPart). has_slept thread.phase) (thread-own s e _ is.event there))
@@ -390,8 +398,10 @@ module _ (script : Script) (s : State) (made : ℕ) (e : Event) (lawful : IsLawf
     known : spins (lock_line script l).kind ≡ spinning
     known = ap spins (sym (kind-of script s scripted e.task l there))
 
-    calling : call_at script e.task (place_at s e.task) ≡ call_of own_thread
-    calling = ap (λ (all : List Call). slice_get all own_thread.answered) (sym (calls-of script s scripted e.task))
+    calling : sleep_of (call_at script e.task (place_at s e.task)) ≡ sleep_of (call_of own_thread)
+    calling =
+        ap (λ (all : List Call). sleep_of (slice_get all own_thread.answered)) (sym (calls-of script s scripted e.task))
+        ∙ sym (made-sleeps own_thread.cpu (slice_get own_thread.calls own_thread.answered))
 
     -- so this is what the flat machine makes of its two fields: as it puts it to sleep, and as it gives it the lock
     abbrev sleeps_there : Flat
@@ -401,7 +411,7 @@ module _ (script : Script) (s : State) (made : ℕ) (e : Event) (lawful : IsLawf
     taken waiting = cond (is_ordinary script (Some l)) (cond waiting (record (before e.task) { state = states.Running }) (before e.task)) (before e.task)
 
     sleeps-is : sleeps_there ≡ flat_asleep spinning (call_of own_thread) (before e.task)
-    sleeps-is = λ i. cond (not (known i)) (record (before e.task) { state = sleep_of (calling i) }) (before e.task)
+    sleeps-is = λ i. cond (not (known i)) (record (before e.task) { state = calling i }) (before e.task)
 
     restored-is : taken true ≡ flat_restored spinning (before e.task)
     restored-is = λ i. cond (not (known i)) (record (before e.task) { state = states.Running }) (before e.task)

@@ -1,5 +1,5 @@
 -- The states of tasks and the answers of wakeups along a run are the flat wakeup machine's.
-use Rattle.std.proofs.Common.{◌≡◌, ℕ, suc, ◌+◌, true, false, ◌||◌, List, [], ◌∷◌, ◌++◌, length, refl, sym, ap, ◌∙◌, subst, Option, Some, None}
+use Rattle.std.proofs.Common.{◌≡◌, ℕ, suc, true, false, ◌||◌, List, [], ◌∷◌, ◌++◌, length, refl, sym, ap, ◌∙◌, subst, Option, Some, None}
 use Rattle.std.specs.Prelude.{is_some}
 use Rattle.std.specs.List.{fold}
 use Rattle.rt_base.specs.Script.{Script, TaskLine}
@@ -15,7 +15,7 @@ use Rattle.rt_model.specs.declared.phase.Phase.{Phase}
 use Rattle.rt_model.specs.declared.phase.Route.{Route}
 use Rattle.rt_model.specs.declared.phase.Route.TheVariants.{Full}
 use Rattle.rt_model.specs.Parts.{TaskPart, ThreadPart, call_of}
-use Rattle.rt_model.specs.Stage.{IsToCome}
+use Rattle.rt_model.specs.CallKinds.{IsToCome}
 use Rattle.rt_model.specs.steps.Chain.{answer_of_walk}
 use Rattle.rt_model.specs.steps.Readers.{without_reader, wakes_writer}
 use Rattle.rt_model.specs.steps.Thread.{got_answer, released_answer}
@@ -43,7 +43,7 @@ use Rattle.rt_model.proofs.events.Walk.{WalksIn, by_full, by_short, is_walk, is_
 use Rattle.rt_model.proofs.laws.Shape.{IsOf-after}
 use Rattle.rt_model.proofs.laws.Flat.{flat_at, rested-beneath, rested-saves, wake-answer, signal-answer}
 use Rattle.rt_model.proofs.laws.Holders.{other_kind}
-use Rattle.rt_model.proofs.laws.Owners.{is_refusal, own-refuses}
+use Rattle.rt_model.proofs.laws.Owners.{is_own, own-answers}
 use Rattle.rt_model.proofs.laws.Tracked.{tracked_at, targeted, tracks}
 
 -- ---- along a run
@@ -119,11 +119,12 @@ module _ (s : State) (made : ℕ) (e : Event) (lawful : IsLawful s made) where
 abbrev Quiet : Option Reply → Type 0
 Quiet reply = tells_wakeup reply ≡ false
 
--- a refusal is no such answer
-quiet-refused : (answer : Reply) → is_refusal answer ≡ true → Quiet (Some answer)
-quiet-refused replies.Woke refuses = cc
-quiet-refused replies.Missed refuses = cc
-quiet-refused _ refuses = refl
+-- what a thread answers at once is no such answer
+quiet-own : (call : Call) (answer : Reply) → is_own call answer ≡ true → Quiet (Some answer)
+quiet-own (calls.Move cpu) replies.Done own = refl
+quiet-own _ replies.Woke own = cc
+quiet-own _ replies.Missed own = cc
+quiet-own _ _ own = refl
 
 -- nor is the answer of an acquire, or of a release
 quiet-got : (call : Option Call) → Quiet (got_answer call)
@@ -159,7 +160,7 @@ quiet-reading s t l e is =
 
 -- a walk's answer is one that was to come
 quiet-to_come : (call : Call) (answer : Reply) → IsToCome call answer → Quiet (Some answer)
-quiet-to_come call answer to_come = to_come-holds (λ c a. Quiet (Some a)) call answer to_come (λ l. refl) (λ l. refl) (λ l. refl) (λ l. refl) (λ l. refl) (λ l. refl) (λ u prio. refl)
+quiet-to_come call answer to_come = to_come-holds (λ c a. Quiet (Some a)) call answer to_come (λ l. refl) (λ l. refl) (λ l. refl) (λ l. refl) (λ l. refl) (λ l. refl) (λ l. refl) (λ u prio. refl)
 
 quiet-walk : (s : State) (t : TaskId) (route : Route) (u : TaskId) (next : Option Phase) → WalksIn s t route u → Quiet (answer_of_walk route next)
 quiet-walk s t route u next (by_full path l same asks) = subst (λ (r : Route). Quiet (answer_of_walk r next)) (sym same) (quiet-full next)
@@ -179,7 +180,7 @@ wakes s t e (by_wakeup (is_signal v is)) told = ap (λ (x : Event). x.kind) is.e
 wakes s t e (by_wakeup (is_state state is)) told = absurd (others e _ is.event refl told)
 wakes s t e (by_wakeup (is_sched is)) told = absurd (others e _ is.event refl told)
 wakes s t e (by_own call answer is) told =
-    absurd (others e _ is.event (quiet-refused answer (own-refuses s t call answer e is)) told)
+    absurd (others e _ is.event (quiet-own call answer (own-answers s t call answer e is)) told)
 wakes s t e (by_acquire l (is_fast is)) told = absurd (others e _ is.event (quiet-got (call_of (thread_part s t))) told)
 wakes s t e (by_acquire l (is_mark is)) told = absurd (others e _ is.event refl told)
 wakes s t e (by_acquire l (is_take is)) told = absurd (others e _ is.event (quiet-got (call_of (thread_part s t))) told)

@@ -117,7 +117,7 @@ module _ (s : State) (made : ℕ) (l : LockId) (v : TaskId) (lawful : IsLawful s
 module _ (s : State) (made : ℕ) (t : TaskId) (e : Event) (lawful : IsLawful s made) (next : IsNext s t e) where
   -- the lock of an event at a reader part is the one that its thread's call is about
   reading-here : (k : LockId) → IsReading s t k e → present_lock (thread_part s t) ≡ Some k
-  reading-here k is = let at = reading-in s t k e is in present-at s t at.phase at.call (Some k) at.at (at.about (thread_part s t).cpu)
+  reading-here k is = let at = reading-in s t k e is in present-at s t at.phase at.call (Some k) at.at at.about
 
   -- ---- of its own task
 

@@ -13,7 +13,7 @@ use Rattle.rt_model.specs.Parts.{OwnerPart, TaskPart, effective_of, kind_named, 
 use Rattle.rt_model.specs.Rows.{can_take}
 use Rattle.rt_model.specs.steps.Lock.{taken_by}
 use Rattle.rt_model.specs.steps.Task.{refreshed, leave_queue}
-use Rattle.rt_model.specs.steps.Thread.{phase_after_got, got_answer, phase_after_busy}
+use Rattle.rt_model.specs.steps.Thread.{phase_after_got, got_answer, phase_after_busy, migration_with}
 use Rattle.rt_model.specs.Effect.{Touched, Rule, nothing, unchanged}
 use Rattle.rt_model.specs.Choice.{bare, boost_of}
 
@@ -42,11 +42,14 @@ fast = record {
   };
 }
 
--- the bit is set
+-- the bit is set; a call for a local lock, of which this is the first event, stays on its processor from here on
 abbrev pub mark : Rule
 mark = record {
   touched = λ e. record nothing { lock = e.lock };
-  effect = λ e thread found. record unchanged { lock = λ lock. record lock { bit = true }; thread = λ left th. record th { phase = Slow } };
+  effect = λ e thread found. record unchanged {
+    lock = λ lock. record lock { bit = true };
+    thread = λ left th. record th { phase = Slow; migration = migration_with th (call_of thread) None };
+  };
 }
 
 -- ---- take: a call that has set the bit, is queued and runs, or tries, takes the lock where it may

@@ -29,8 +29,8 @@ if_not_held held = if held then None else Some replies.NotOwner
 abbrev pub unless_nested : ℕ → Option Reply → Option Reply
 unless_nested spinning_holds answer = if nat_lt 0 spinning_holds then Some replies.Nesting else answer
 
--- the answer that the thread's own part gives the call at once, where there is one: spinning_holds is how many
--- locks of a spinning kind it holds, and held whether it has the hold that the call is about
+-- what the thread's own part refuses the call with, where it does: spinning_holds is how many locks of a spinning kind it
+-- holds, and held whether it has the hold that the call is about
 abbrev pub private_answer : Call → Option Kind → ℕ → Bool → ℕ → Option Reply
 private_answer (calls.Lock l) kind spinning_holds held migration = unless_nested spinning_holds (if_held held)
 private_answer (calls.LockInt l) kind spinning_holds held migration = unless_nested spinning_holds (if_held held)
@@ -70,13 +70,18 @@ spinning_hold kind hold = if spins kind && (hold.owns || nat_lt 0 hold.reads) th
 abbrev pub spinning_holds : List Kind → List Hold → ℕ
 spinning_holds kinds holds = count_holds spinning_hold kinds holds
 
--- what a thread answers a call on this lock at once, where it does
-abbrev pub answer_on : ThreadPart → Call → Option LockId → Option Reply
-answer_on thread call lock = private_answer call (option_map (kind_of thread) lock) (spinning_holds thread.kinds thread.holds) (is_held thread call lock) thread.migration
+-- what a thread refuses a call on this lock with, where it does
+abbrev pub refusal_on : ThreadPart → Call → Option LockId → Option Reply
+refusal_on thread call lock = private_answer call (option_map (kind_of thread) lock) (spinning_holds thread.kinds thread.holds) (is_held thread call lock) thread.migration
 
--- what a thread answers a call at once, where it does
+-- a `move` that isn't refused is done at once
+abbrev pub or_moved : Call → Option Reply → Option Reply
+or_moved (calls.Move cpu) None = Some replies.Done
+or_moved call refusal = refusal
+
+-- what a thread answers a call at once, where it does: a refusal, or that it is on the processor to which it moves
 abbrev pub own_answer : ThreadPart → Call → Option Reply
-own_answer thread call = answer_on thread call (called_lock thread.cpu call)
+own_answer thread call = or_moved call (refusal_on thread call (called_lock call))
 
 abbrev pub own_event : TaskId → Option LockId → Reply → Event
 own_event t lock answer = record (bare t kinds.Own) { lock = lock; reply = Some answer }

@@ -76,7 +76,7 @@ leaves answer owner step e thread = record unchanged {
   lock = left_by e.task;
   own = λ lock task. step (spins (kind_named thread e.lock)) task;
   owner = λ lock task. refreshed e.lock lock.rows task;
-  thread = λ left th. record th { phase = phase_of_walk (Short answer) (goes_on e.task (Short answer) owner left.owner) };
+  thread = λ left th. record th { phase = phase_of_walk (goes_on e.task (Short answer) owner left.owner) };
 }
 
 -- ---- leave: a signal ends the wait

@@ -70,6 +70,6 @@ setprio = record {
   touched = λ e. record nothing { other = e.other };
   effect = λ e thread found. record unchanged {
     other = λ lock task. with_own e.value task;
-    thread = λ left th. record th { phase = phase_of_walk (Short Done) (goes_on e.task (Short Done) e.other left.other) };
+    thread = λ left th. record th { phase = phase_of_walk (goes_on e.task (Short Done) e.other left.other) };
   };
 }

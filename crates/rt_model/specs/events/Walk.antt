@@ -68,12 +68,12 @@ cursor_event sh t route u cursor (Some at) = walk_event t route u at.0 (lock_in 
 
 -- the phase of a walk that has left this lock, with this owner after it
 abbrev pub phase_after_link : TaskId → Option LockId → Option TaskId → TaskPart → Phase → Phase
-phase_after_link t (Some l) owner task (Walk cursor route) = phase_of_walk route (goes_on t (followed cursor l route) owner task)
+phase_after_link t (Some l) owner task (Walk cursor route) = phase_of_walk (goes_on t (followed cursor l route) owner task)
 phase_after_link t l owner task phase = phase
 
 -- and of one whose cursor isn't blocked
 abbrev pub phase_after_end : Phase → Phase
-phase_after_end (Walk cursor route) = phase_of_walk route None
+phase_after_end (Walk cursor route) = phase_of_walk None
 phase_after_end phase = phase
 
 -- the cursor is queued with its effective priority, the owner keeps the top waiter's key, or that waiter is woken

@@ -12,8 +12,10 @@ use Rattle.rt_base.specs.declared.reply.Reply.TheVariants as replies
 use Rattle.rt_model.specs.declared.event.Event.{Event}
 use Rattle.rt_model.specs.declared.event_kind.EventKind.{EventKind}
 use Rattle.rt_model.specs.declared.event_kind.EventKind.TheVariants as kinds
+use Rattle.rt_model.specs.Parts.{made_on}
 use Rattle.rt_model.specs.Choice.{called_lock}
 use Rattle.rt_model.specs.steps.Task.{state_number}
+use Rattle.rt_model.specs.steps.Thread.{cpu_after}
 use Rattle.rt_model.specs.State.{State, start, task_part, thread_part}
 use Rattle.rt_model.specs.Run.{after, ended_of}
 use Rattle.rt_model.specs.laws.Keys.{StandsAt}
@@ -122,7 +124,13 @@ can_have_waking kinds.Wake (Some replies.Woke) = true
 can_have_waking kinds.Wake (Some replies.Missed) = true
 can_have_waking _ _ = false
 
--- the call can have an event of this kind with this answer; so far of all calls but those of local locks and `move`
+-- a `move` can have these
+abbrev pub can_have_moving : EventKind → Option Reply → Bool
+can_have_moving kinds.Own (Some replies.Done) = true
+can_have_moving kinds.Own (Some replies.Pinned) = true
+can_have_moving _ _ = false
+
+-- the call can have an event of this kind with this answer
 abbrev pub can_have : Call → EventKind → Option Reply → Bool
 can_have (calls.Lock l) kind reply = can_have_got kind reply || can_have_waiting kind reply || can_have_nested kind reply
 can_have (calls.LockInt l) kind reply = can_have_got kind reply || can_have_waiting kind reply || can_have_nested kind reply ||
@@ -144,6 +152,9 @@ can_have (calls.Unwrite l) kind reply = can_have_opening kind reply || can_have_
     can_have_refusal kind reply
 can_have (calls.Downgrade l) kind reply = can_have_opening kind reply || can_have_release replies.Done kind reply ||
     can_have_refusal kind reply
+can_have (calls.Local l) kind reply = can_have_got kind reply || can_have_waiting kind reply
+can_have (calls.Unlocal l) kind reply = can_have_release replies.Done kind reply || can_have_refusal kind reply
+can_have (calls.Move cpu) kind reply = can_have_moving kind reply
 can_have (calls.State state) kinds.State (Some replies.Done) = true
 can_have calls.Schedule kinds.Sched (Some replies.Done) = true
 can_have calls.Schedule kind reply = can_have_nested kind reply
@@ -179,16 +190,16 @@ number_in kind call = called_number call
 
 -- an event of this kind names what its call names, but those of a walk, of which a walk and a restart name a lock and a task, and
 -- a walk's end a task alone
-abbrev pub NamesFor : EventKind → Cpu → Call → Event → Type 0
-NamesFor kinds.Walk cpu call e = IsSome e.lock × IsSome e.other × (e.value ≡ 0)
-NamesFor kinds.Restart cpu call e = IsSome e.lock × IsSome e.other × (e.value ≡ 0)
-NamesFor kinds.WalkEnd cpu call e = (e.lock ≡ None) × IsSome e.other × (e.value ≡ 0)
-NamesFor kind cpu call e = (e.lock ≡ called_lock cpu call) × (e.other ≡ called_task call) × (e.value ≡ number_in kind call)
+abbrev pub NamesFor : EventKind → Call → Event → Type 0
+NamesFor kinds.Walk call e = IsSome e.lock × IsSome e.other × (e.value ≡ 0)
+NamesFor kinds.Restart call e = IsSome e.lock × IsSome e.other × (e.value ≡ 0)
+NamesFor kinds.WalkEnd call e = (e.lock ≡ None) × IsSome e.other × (e.value ≡ 0)
+NamesFor kind call e = (e.lock ≡ called_lock call) × (e.other ≡ called_task call) × (e.value ≡ number_in kind call)
 
--- the event is one of the call, of a task on this processor
-pub record IsOfCall (cpu : Cpu) (call : Call) (e : Event) : Type 0 where
+-- the event is one of the call, as it is made on a processor
+pub record IsOfCall (call : Call) (e : Event) : Type 0 where
   pub can : can_have call e.kind e.reply ≡ true
-  pub names : NamesFor e.kind cpu call e
+  pub names : NamesFor e.kind call e
 
 -- an event of a walk, in the state that it comes in, names the task at which its task's walk stands, and the lock on which that
 -- one is blocked, where it is
@@ -204,21 +215,21 @@ is_of_walk kinds.Walk = true
 is_of_walk kinds.WalkEnd = true
 is_of_walk _ = false
 
--- an event with no answer leaves the call unfinished; an answer ends it, and counts
-abbrev pub then_make : (List Call → ℕ → Type 0) → Call → List Call → Option Reply → ℕ → Type 0
-then_make rest call calls None n = rest (call ∷ calls) n
-then_make rest call calls (Some answer) zero = ⊥
-then_make rest call calls (Some answer) (suc n) = rest calls n
+-- an event with no answer leaves the call unfinished; an answer ends it, and counts; a `move` that is done goes to its processor
+abbrev pub then_make : (Cpu → List Call → ℕ → Type 0) → Cpu → Call → List Call → Option Reply → ℕ → Type 0
+then_make rest cpu call calls None n = rest cpu (call ∷ calls) n
+then_make rest cpu call calls (Some answer) zero = ⊥
+then_make rest cpu call calls (Some answer) (suc n) = rest (cpu_after (Some call) answer cpu) calls n
 
--- the next event is one of the first call that is left
-abbrev pub makes_first : (List Call → ℕ → Type 0) → Cpu → List Call → Event → ℕ → Type 0
+-- the next event is one of the first call that is left, made on this processor
+abbrev pub makes_first : (Cpu → List Call → ℕ → Type 0) → Cpu → List Call → Event → ℕ → Type 0
 makes_first rest cpu [] e n = ⊥
-makes_first rest cpu (call ∷ calls) e n = IsOfCall cpu call e × then_make rest call calls e.reply n
+makes_first rest cpu (call ∷ calls) e n = IsOfCall (made_on cpu call) e × then_make rest cpu call calls e.reply n
 
--- events of one task make these calls once and in order, each up to its only answer, and answer n of them
-abbrev pub Make : Cpu → List Event → List Call → ℕ → Type 0
-Make cpu [] calls n = n ≡ 0
-Make cpu (e ∷ events) calls n = makes_first (Make cpu events) cpu calls e n
+-- events of one task, on this processor at first, make these calls once and in order, each up to its only answer, and answer n of them
+abbrev pub Make : List Event → Cpu → List Call → ℕ → Type 0
+Make [] cpu calls n = n ≡ 0
+Make (e ∷ events) cpu calls n = makes_first (Make events) cpu calls e n
 
 -- the events of a task
 abbrev pub events_of : TaskId → List Event → List Event
@@ -231,6 +242,6 @@ answered_after script events t = (thread_part (after (start script) events) t).a
 -- each task's events make its calls once and in order, as many as the report counts, and all where the run ended done; those of
 -- a walk name where it stands
 pub record CallsLaw (script : Script) (events : List Event) : Type 0 where
-  pub made : (t : TaskId) → t.0 < length script.tasks → Make (task_line script t).cpu (events_of t events) (task_line script t).calls (answered_after script events t)
+  pub made : (t : TaskId) → t.0 < length script.tasks → Make (events_of t events) (task_line script t).cpu (task_line script t).calls (answered_after script events t)
   pub all : ended_of (after (start script) events) ≡ Done → (t : TaskId) → t.0 < length script.tasks → answered_after script events t ≡ length (task_line script t).calls
   pub walks : (prefix rest : List Event) (e : Event) → prefix ++ e ∷ rest ≡ events → is_of_walk e.kind ≡ true → IsOfWalk (after (start script) prefix) e

@@ -1,7 +1,7 @@
 -- All laws of a state.
 use Rattle.std.specs.Prelude.{ℕ}
 use Rattle.rt_model.specs.State.{State}
-use Rattle.rt_model.specs.Stage.{IsStaged}
+use Rattle.rt_model.specs.CallKinds.{CallsFit}
 use Rattle.rt_model.specs.laws.Shape.{IsShaped}
 use Rattle.rt_model.specs.laws.Phases.{PhasesLaw}
 use Rattle.rt_model.specs.laws.Rows.{RowsLaw}
@@ -21,7 +21,7 @@ use Rattle.rt_model.specs.laws.Responsible.{ResponsibleLaw}
 -- the state is lawful, where so many events were made
 pub record IsLawful (s : State) (made : ℕ) : Type 0 where
   pub shape : IsShaped s
-  pub stage : IsStaged s
+  pub calls : CallsFit s
   pub phases : PhasesLaw s
   pub rows : RowsLaw s made
   pub kept : KeptTopsLaw s

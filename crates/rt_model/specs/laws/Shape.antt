@@ -2,19 +2,24 @@
 use Rattle.std.specs.Prelude.{◌≡◌, ℕ, ◌<◌, ◌≤◌, List, length, map, sum, All, IfSome}
 use Rattle.rt_base.specs.Script.{Script, TaskLine}
 use Rattle.rt_base.specs.declared.call.Call.{Call}
+use Rattle.rt_base.specs.declared.id.Cpu.{Cpu}
 use Rattle.rt_base.specs.declared.kind.Kind.{Kind}
 use Rattle.rt_base.specs.declared.limits.TheConstants.{MAX_TASKS, MAX_LOCKS, MAX_CALLS}
 use Rattle.rt_model.specs.declared.event.Event.{Event}
 use Rattle.rt_model.specs.declared.row.Row.{Row}
 use Rattle.rt_model.specs.Parts.{OwnerPart, TaskPart, ThreadPart}
 use Rattle.rt_model.specs.State.{State, kinds_in}
-use Rattle.rt_model.specs.Stage.{IsServed}
+use Rattle.rt_model.specs.CallKinds.{IsServed, MovesWithin, OnEachCpu}
 
--- a thread counts no more answers than it has calls, which are no more than a script may have, and each is served
-pub record IsThread (calls : List Call) (answered tasks locks : ℕ) : Type 0 where
+-- a thread counts no more answers than it has calls, which are no more than a script may have, and each is served on whichever of
+-- the processors the thread goes to
+pub record IsThread (calls : List Call) (answered : ℕ) (cpu : Cpu) (tasks locks : ℕ) : Type 0 where
   pub within : answered ≤ length calls
   pub few : length calls ≤ MAX_CALLS
-  pub served : All (IsServed tasks locks) calls
+  pub cpus : ℕ
+  pub on : cpu.0 < cpus
+  pub moves : All (MovesWithin cpus) calls
+  pub served : All (OnEachCpu cpus (IsServed tasks locks)) calls
 
 -- how many calls the threads make together
 abbrev pub calls_of : List ThreadPart → ℕ

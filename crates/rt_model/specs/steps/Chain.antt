@@ -78,13 +78,12 @@ goes_on t route None task = None
 goes_on t (Full path) (Some o) task = full_at t path o task
 goes_on t (Short answer) (Some o) task = short_at answer o task
 
--- a full walk that ends leaves its task waiting, a short one ends the call
-abbrev pub phase_of_walk : Route → Option Phase → Phase
-phase_of_walk route (Some phase) = phase
-phase_of_walk (Full path) None = phases.Wait
-phase_of_walk (Short answer) None = phases.Start
+-- a walk that ends leaves its task waiting
+abbrev pub phase_of_walk : Option Phase → Phase
+phase_of_walk (Some phase) = phase
+phase_of_walk None = phases.Wait
 
--- and gives the answer that was to come
+-- but a short one gives the answer that was to come, which ends the call
 abbrev pub answer_of_walk : Route → Option Phase → Option Reply
 answer_of_walk (Short answer) None = Some answer
 answer_of_walk route next = None

@@ -1,7 +1,8 @@
 -- Steps on a thread.
-use Rattle.std.specs.Prelude.{ℕ, ◌+◌, ◌-◌, Bool, true, false, List, Option, Some, None, slice_set}
+use Rattle.std.specs.Prelude.{ℕ, ◌+◌, ◌-◌, Bool, true, false, List, Option, Some, None, option_map, slice_set}
 use Rattle.rt_base.specs.declared.call.Call.{Call}
 use Rattle.rt_base.specs.declared.call.Call.TheVariants as calls
+use Rattle.rt_base.specs.declared.id.Cpu.{Cpu}
 use Rattle.rt_base.specs.declared.id.LockId.{LockId}
 use Rattle.rt_base.specs.declared.kind.Kind.{Kind}
 use Rattle.rt_base.specs.declared.kind.Kind.TheVariants.{RwLock}
@@ -11,6 +12,7 @@ use Rattle.rt_model.specs.declared.hold.Hold.{Hold}
 use Rattle.rt_model.specs.declared.phase.Phase.{Phase}
 use Rattle.rt_model.specs.declared.phase.Phase.TheVariants as phases
 use Rattle.rt_model.specs.Parts.{ThreadPart, call_of, hold_of, kind_of}
+use Rattle.rt_model.specs.Choice.{called_lock}
 
 -- ---- an owner part is acquired, or released
 
@@ -72,34 +74,60 @@ holds_after thread (Some (calls.Write l)) replies.Got = with_hold thread l true
 holds_after thread (Some (calls.TryWrite l)) replies.Got = with_hold thread l true
 holds_after thread (Some (calls.Unwrite l)) replies.Done = with_hold thread l false
 holds_after thread (Some (calls.Downgrade l)) replies.Done = downgraded thread l
+holds_after thread (Some (calls.Local l)) replies.Got = with_hold thread l true
+holds_after thread (Some (calls.Unlocal l)) replies.Done = with_hold thread l false
 holds_after thread call answer = thread.holds
 
--- ---- migration
+-- ---- migration: who has a lock of a spinning kind, or waits for a local lock, stays on its processor (`migrate_disable` and
+-- `migrate_enable` in `rt_spin_lock`, `rt_read_lock`, `rt_write_lock`, `local_lock` and their unlocks)
 
--- a hold of an `rwlock_t` more, or less, counts one; one of an `rw_semaphore` nothing
-abbrev pub pinned_by : Kind → ℕ → ℕ
-pinned_by RwLock count = count + 1
-pinned_by _ count = count
+-- a hold of an `rwlock_t` counts one, and one of an `rw_semaphore` nothing
+abbrev pub rwlock_pins : Option Kind → ℕ
+rwlock_pins (Some RwLock) = 1
+rwlock_pins kind = 0
 
-abbrev pub unpinned_by : Kind → ℕ → ℕ
-unpinned_by RwLock count = count - 1
-unpinned_by _ count = count
+-- what an event of this call, with this answer, adds to its thread's migration count: `first` is whether it is the call's first
+abbrev pub pins_added : Call → Option Kind → Bool → Option Reply → ℕ
+pins_added (calls.Spin l) kind first (Some replies.Got) = 1
+pins_added (calls.TrySpin l) kind first (Some replies.Got) = 1
+pins_added (calls.Read l) kind first (Some replies.Got) = rwlock_pins kind
+pins_added (calls.TryRead l) kind first (Some replies.Got) = rwlock_pins kind
+pins_added (calls.Write l) kind first (Some replies.Got) = rwlock_pins kind
+pins_added (calls.TryWrite l) kind first (Some replies.Got) = rwlock_pins kind
+pins_added (calls.Local l) kind true (Some replies.Got) = 2
+pins_added (calls.Local l) kind true None = 1
+pins_added (calls.Local l) kind false (Some replies.Got) = 1
+pins_added call kind first reply = 0
 
--- a thread's migration count once its call has this answer: who has a spinlock or an `rwlock_t` stays on its processor
--- (`migrate_disable` and `migrate_enable` in `rt_spin_lock`, `rt_read_lock`, `rt_write_lock` and their unlocks)
-abbrev pub migration_after : ThreadPart → Option Call → Reply → ℕ
-migration_after thread (Some (calls.Spin l)) replies.Got = thread.migration + 1
-migration_after thread (Some (calls.TrySpin l)) replies.Got = thread.migration + 1
-migration_after thread (Some (calls.Unspin l)) replies.Done = thread.migration - 1
-migration_after thread (Some (calls.Read l)) replies.Got = pinned_by (kind_of thread l) thread.migration
-migration_after thread (Some (calls.TryRead l)) replies.Got = pinned_by (kind_of thread l) thread.migration
-migration_after thread (Some (calls.Unread l)) replies.Done = unpinned_by (kind_of thread l) thread.migration
-migration_after thread (Some (calls.Write l)) replies.Got = pinned_by (kind_of thread l) thread.migration
-migration_after thread (Some (calls.TryWrite l)) replies.Got = pinned_by (kind_of thread l) thread.migration
-migration_after thread (Some (calls.Unwrite l)) replies.Done = unpinned_by (kind_of thread l) thread.migration
-migration_after thread call answer = thread.migration
+-- and what it takes
+abbrev pub pins_taken : Call → Option Kind → Bool → Option Reply → ℕ
+pins_taken (calls.Unspin l) kind first (Some replies.Done) = 1
+pins_taken (calls.Unread l) kind first (Some replies.Done) = rwlock_pins kind
+pins_taken (calls.Unwrite l) kind first (Some replies.Done) = rwlock_pins kind
+pins_taken (calls.Local l) kind false (Some replies.Deadlock) = 1
+pins_taken (calls.Unlocal l) kind first (Some replies.Done) = 2
+pins_taken call kind first reply = 0
+
+-- so the count after it, from the one before
+abbrev pub migration_after : Call → Option Kind → Bool → Option Reply → ℕ → ℕ
+migration_after call kind first reply before = before + pins_added call kind first reply - pins_taken call kind first reply
+
+-- a call has made no event yet
+abbrev pub is_start : Phase → Bool
+is_start phases.Start = true
+is_start _ = false
+
+-- a thread's count after an event of its call
+abbrev pub migration_with : ThreadPart → Option Call → Option Reply → ℕ
+migration_with thread None reply = thread.migration
+migration_with thread (Some call) reply = migration_after call (option_map (kind_of thread) (called_lock call)) (is_start thread.phase) reply thread.migration
 
 -- ---- answers
+
+-- a `move` that is done has brought its task to the processor that it names
+abbrev pub cpu_after : Option Call → Reply → Cpu → Cpu
+cpu_after (Some (calls.Move cpu)) replies.Done before = cpu
+cpu_after call answer before = before
 
 -- an answer moves the thread to the start of its next call
 abbrev pub answered_with : ThreadPart → Option Reply → ThreadPart
@@ -108,5 +136,6 @@ answered_with thread (Some answer) = record thread {
   answered = thread.answered + 1;
   phase = phases.Start;
   holds = holds_after thread (call_of thread) answer;
-  migration = migration_after thread (call_of thread) answer;
+  migration = migration_with thread (call_of thread) (Some answer);
+  cpu = cpu_after (call_of thread) answer thread.cpu;
 }

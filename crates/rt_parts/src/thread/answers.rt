@@ -1,18 +1,32 @@
-// What an answer does to its thread.
-ghost use Rattle.std.specs.Prelude.{◌≡◌, ◌<◌, ◌≤◌, length, slice_set, IsSome, Some};
+// What its call's events do to a thread's count, and an answer to the rest of it.
+ghost use Rattle.std.specs.Prelude.{◌≡◌, ◌<◌, ◌≤◌, length, slice_set, option_map, IfSome, IsSome, None, Some};
+ghost use Rattle.rt_model.specs.declared.phase.Phase.TheVariants.{Slow};
 ghost use Rattle.rt_model.specs.Parts.{call_of, hold_of, kind_of};
-ghost use Rattle.rt_model.specs.Stage.{IsServed};
+ghost use Rattle.rt_model.specs.CallKinds.{IsServed};
 ghost use Rattle.rt_model.specs.events.Own.{spinning_hold};
-ghost use Rattle.rt_model.specs.steps.Thread.{pinned_by, unpinned_by, answered_with, holds_after, migration_after, with_hold, with_read, without_read, downgraded};
+ghost use Rattle.rt_model.specs.steps.Thread.{answered_with, holds_after, migration_with, cpu_after, with_hold, with_read, without_read, downgraded};
 ghost use Rattle.rt_parts.specs.Steps.{with_migration};
-ghost use Rattle.rt_parts.specs.Thread.{CanReadMore, CanUnpin, HasRead, HasPin, CanAnswer};
+ghost use Rattle.rt_parts.specs.Thread.{CanReadMore, HasRead, HasPins, IsCounted, CanAnswer};
 
 use crate::thread::Thread;
 use rt_base::limits::MAX_TASKS;
 use rt_base::{Call, Kind, LockId, Reply};
+use rt_local::migration_after;
 use rt_model::{Hold, Phase};
 
 impl Thread {
+    /// Its call has set the bit of its lock, and goes on by the slow path. A call for a local lock counts one from this
+    /// first event of it on.
+    pub fn mark(&mut self)
+        requires call { IsSome (call_of self.old) }
+        requires counted { IsCounted self.old }
+        ensures { self.new ≡ record self.old { phase = Slow; migration = migration_with self.old (call_of self.old) None } }
+    {
+        let Some(call) = self.call() else { return };
+        self.count_event(&call, None);
+        self.phase = Phase::Slow;
+    }
+
     /// The call that it is at has this answer, and it goes to the start of the next one.
     pub fn answer(&mut self, reply: Reply)
         requires call { IsSome (call_of self.old) }
@@ -20,9 +34,10 @@ impl Thread {
         ensures { self.new ≡ answered_with self.old (Some reply) }
     {
         let Some(call) = self.call() else { return };
+        self.count_event(&call, Some(reply));
+        self.go_where_moved(&call, reply);
         self.answered += 1;
         self.phase = Phase::Start;
-        self.count_answer(&call, reply);
         self.note_answer(&call, reply);
     }
 
@@ -42,12 +57,14 @@ impl Thread {
                 | Call::Spin(l)
                 | Call::TrySpin(l)
                 | Call::Write(l)
-                | Call::TryWrite(l),
+                | Call::TryWrite(l)
+                | Call::Local(l),
                 Reply::Got,
             ) => self.set_owns(*l, true),
-            (Call::Unlock(l) | Call::Unspin(l) | Call::Unwrite(l), Reply::Done) => {
-                self.set_owns(*l, false)
-            }
+            (
+                Call::Unlock(l) | Call::Unspin(l) | Call::Unwrite(l) | Call::Unlocal(l),
+                Reply::Done,
+            ) => self.set_owns(*l, false),
             (Call::Read(l) | Call::TryRead(l), Reply::Got) => self.read_more(*l),
             (Call::Unread(l), Reply::Done) => self.read_less(*l),
             (Call::Downgrade(l), Reply::Done) => self.downgrade(*l),
@@ -55,43 +72,33 @@ impl Thread {
         }
     }
 
-    // Counts a spinlock or an `rwlock_t` that it got, `migrate_disable` in `rt_spin_lock`, `rt_read_lock` and
-    // `rt_write_lock`, and no longer one that it gave back, `migrate_enable` in their unlocks.
-    fn count_answer(&mut self, call: &Call, reply: Reply)
+    // Its migration count after an event of its call, which gives this answer, where it gives one.
+    fn count_event(&mut self, call: &Call, reply: Option<Reply>)
         requires served { IsServed MAX_TASKS (length self.old.kinds) call.now }
-        requires room { self.old.migration < self.old.answered }
-        requires pin { HasPin self.old (Some call.now) reply }
-        ensures { self.new ≡ with_migration self.old (migration_after self.old (Some call.now) reply) }
+        requires pins { HasPins self.old (Some call.now) reply }
+        requires counted { IsCounted self.old }
+        ensures { self.new ≡ with_migration self.old (migration_with self.old (Some call.now) reply) }
     {
-        match (call, reply) {
-            (Call::Spin(_) | Call::TrySpin(_), Reply::Got) => self.migration += 1,
-            (Call::Unspin(_), Reply::Done) => self.migration -= 1,
-            (Call::Read(l) | Call::TryRead(l) | Call::Write(l) | Call::TryWrite(l), Reply::Got) =>
-                self.pin(*l),
-            (Call::Unread(l) | Call::Unwrite(l), Reply::Done) => self.unpin(*l),
-            _ => {}
-        }
+        let kind = self.kind_at(self.called_lock(call));
+        let first = matches!(self.phase, Phase::Start);
+        self.migration = migration_after(*call, kind, first, reply, self.migration);
     }
 
-    // A hold of this lock more counts one where it is an `rwlock_t`.
-    fn pin(&mut self, l: LockId)
-        requires lock { l.0 < length self.old.kinds }
-        requires room { self.old.migration < self.old.answered }
-        ensures { self.new ≡ with_migration self.old (pinned_by (kind_of self.old l) self.old.migration) }
+    // The kind of a lock that may not be named.
+    fn kind_at(&self, lock: Option<LockId>) -> Option<Kind>
+        requires { IfSome lock (λ l. l.0 < length self.now.kinds) }
+        ensures { result ≡ option_map (kind_of self.now) lock }
     {
-        if let Kind::RwLock = self.kind_of(l) {
-            self.migration += 1;
-        }
+        Some(self.kind_of(lock?))
     }
 
-    // And one less counts one less.
-    fn unpin(&mut self, l: LockId)
-        requires lock { l.0 < length self.old.kinds }
-        requires pin { CanUnpin (kind_of self.old l) self.old.migration }
-        ensures { self.new ≡ with_migration self.old (unpinned_by (kind_of self.old l) self.old.migration) }
+    // Its call, where it is a `move` that is done, has brought it to another processor.
+    fn go_where_moved(&mut self, call: &Call, reply: Reply)
+        requires { call_of self.old ≡ Some call.now }
+        ensures { self.new ≡ record self.old { cpu = cpu_after (Some call.now) reply self.old.cpu } }
     {
-        if let Kind::RwLock = self.kind_of(l) {
-            self.migration -= 1;
+        if let (Call::Move(to), Reply::Done) = (call, reply) {
+            self.cpu = *to;
         }
     }
 

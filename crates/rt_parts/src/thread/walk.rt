@@ -4,7 +4,7 @@ ghost use Rattle.rt_base.specs.declared.id.TaskId.{TaskId};
 ghost use Rattle.rt_model.specs.declared.phase.Phase.TheVariants.{Walk};
 ghost use Rattle.rt_model.specs.declared.phase.Route.TheVariants.{Full};
 ghost use Rattle.rt_model.specs.Parts.{TaskPart};
-ghost use Rattle.rt_model.specs.steps.Chain.{followed, goes_on, phase_of_walk};
+ghost use Rattle.rt_model.specs.steps.Chain.{followed, goes_on};
 ghost use Rattle.rt_model.specs.events.Walk.{phase_after_link, phase_after_end};
 ghost use Rattle.rt_walk.specs.Next.{found};
 ghost use Rattle.rt_parts.specs.Links.{HasRoom, walk_to, phase_told};
@@ -46,14 +46,12 @@ impl Thread {
         }
     }
 
-    /// Its walk ends: a full one leaves it waiting, a short one ends its call.
+    /// Its walk ends: a full one leaves it waiting, and the answer of a short one ends its call.
     pub fn end_walk(&mut self)
         ensures { self.new ≡ with_phase self.old (phase_after_end self.old.phase) }
     {
-        match self.phase {
-            Phase::Walk(_, Route::Full(_)) => self.phase = Phase::Wait,
-            Phase::Walk(_, Route::Short(_)) => self.phase = Phase::Start,
-            _ => {}
+        if let Phase::Walk(..) = self.phase {
+            self.phase = Phase::Wait;
         }
     }
 }
@@ -70,7 +68,6 @@ fn follow_route(
     requires room { HasRoom (Walk cursor route.old) }
     ensures next { (owner : Option TaskId) (task : TaskPart) → next ≡ found owner task
         → walk_to route.new result ≡ goes_on t (followed cursor l route.old) owner task }
-    ensures end { phase_of_walk route.new None ≡ phase_of_walk route.old None }
 {
     let Route::Full(path) = route else {
         return after(t, false, &Path::empty(), next);

@@ -11,7 +11,7 @@ use Rattle.rt_choice.proofs.next.next_of.Goals as goal
 
 -- a call that isn't in its first phase goes on by that phase
 goes_on : (phase : Phase) (sh : Shared) (t : TaskId) (thread : ThreadPart) (call : Call) → (phase ≡ phases.Start → ⊥)
-    → later_event phase sh t thread (called_lock thread.cpu call) ≡ event_in phase sh t thread call
+    → later_event phase sh t thread (called_lock call) ≡ event_in phase sh t thread call
 goes_on phases.Start sh t thread call later = absurd (later refl)
 goes_on _ sh t thread call later = refl
 

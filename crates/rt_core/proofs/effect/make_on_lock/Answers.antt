@@ -53,7 +53,7 @@ pub returns-in-Leave-clause-thread : goal.returns-in-Leave-clause-thread
 returns-in-Leave-clause-thread c =
     let e = c.args.e.now in
     let left = c.leave.ensures.shared ∙ left-at c.args.shared.now c.args.thread.now e kinds.Leave c.args.l c.in-Leave.is c.requires.named in
-    told-moved c.args.shared.now c.leave.new.shared c.args.thread.now _ e (record e { kind = kinds.Leave; lock = Some c.args.l }) (λ x. phase_of_walk (Short Interrupted) (goes_on e.task (Short Interrupted) e.owner (task_at x e.owner)))
+    told-moved c.args.shared.now c.leave.new.shared c.args.thread.now _ e (record e { kind = kinds.Leave; lock = Some c.args.l }) (λ x. phase_of_walk (goes_on e.task (Short Interrupted) e.owner (task_at x e.owner)))
     (sym (λ i. record e { kind = c.in-Leave.is i; lock = c.requires.named i })) refl left c.leave.ensures.thread
 
 pub returns-in-Cycle-clause-shared : goal.returns-in-Cycle-clause-shared
@@ -63,7 +63,7 @@ pub returns-in-Cycle-clause-thread : goal.returns-in-Cycle-clause-thread
 returns-in-Cycle-clause-thread c =
     let e = c.args.e.now in
     let left = c.cycle.ensures.shared ∙ left-at c.args.shared.now c.args.thread.now e kinds.Cycle c.args.l c.in-Cycle.is c.requires.named in
-    told-moved c.args.shared.now c.cycle.new.shared c.args.thread.now _ e (record e { kind = kinds.Cycle; lock = Some c.args.l }) (λ x. phase_of_walk (Short Deadlock) (goes_on e.task (Short Deadlock) (first_owner e.path) (task_at x (first_owner e.path))))
+    told-moved c.args.shared.now c.cycle.new.shared c.args.thread.now _ e (record e { kind = kinds.Cycle; lock = Some c.args.l }) (λ x. phase_of_walk (goes_on e.task (Short Deadlock) (first_owner e.path) (task_at x (first_owner e.path))))
     (sym (λ i. record e { kind = c.in-Cycle.is i; lock = c.requires.named i })) refl left c.cycle.ensures.thread
 
 pub returns-in-Busy-clause-shared : goal.returns-in-Busy-clause-shared

@@ -32,5 +32,5 @@ pub returns-in-SetPrio-clause-thread : goal.returns-in-SetPrio-clause-thread
 returns-in-SetPrio-clause-thread c =
     let e = c.args.e.now in
     let left = c.setprio.ensures.shared ∙ kind-left c.args.shared.now c.args.thread.now e kinds.SetPrio c.in-SetPrio.is in
-    told-moved c.args.shared.now c.setprio.new.shared c.args.thread.now _ e (record e { kind = kinds.SetPrio }) (λ x. phase_of_walk (Short Done) (goes_on e.task (Short Done) e.other (task_at x e.other)))
+    told-moved c.args.shared.now c.setprio.new.shared c.args.thread.now _ e (record e { kind = kinds.SetPrio }) (λ x. phase_of_walk (goes_on e.task (Short Done) e.other (task_at x e.other)))
     (sym (λ i. record e { kind = c.in-SetPrio.is i })) refl left c.setprio.ensures.thread

@@ -13,7 +13,7 @@ returns-in-Ok-print_replay-clause-outcome g c =
     let e = c.in-Ok-print_replay.ensures in
     let output : Output = record { held_before = g.K.Sink.held c.args.out.now; held_after = g.K.Sink.held c.print_replay.new.out; faults_before = g.K.Sink.faults c.args.out.now; faults_after = g.K.Sink.faults c.print_replay.new.out } in
     rw (c.of_run.ensures, ← c.turns-turns.ensures.value)
-    (Replays-printed script turns c.in-Ok-print_replay.ended output (record { run = run; sound = sound script (replayed script turns).events c.requires.valid c.requires.playable run; text = e.writes.whole; no_fault = e.writes.no_fault; ends_so = e.ended; limit = e.limit }))
+    (Replays-printed script turns c.in-Ok-print_replay.ended output (record { run = run; sound = sound script (replayed script turns).events c.requires run; text = e.writes.whole; no_fault = e.writes.no_fault; ends_so = e.ended; limit = e.limit }))
 
 pub returns-clause-outcome : goal.returns-clause-outcome
 returns-clause-outcome g c =
@@ -24,7 +24,7 @@ returns-clause-outcome g c =
     let cut : IsCut script turns output = record {
       cause = c.in-Err.ensures.writes.cause;
       run = run;
-      sound = sound script (replayed script turns).events c.requires.valid c.requires.playable run;
+      sound = sound script (replayed script turns).events c.requires run;
       text = c.in-Err.ensures.writes.part;
     } in
     rw (← c.turns-turns.ensures.value) cut

@@ -4,11 +4,12 @@ use Rattle.rt_model.specs.State.{State, object}
 use Rattle.rt_model.specs.StateAfter.{state_after}
 use Rattle.rt_model.specs.laws.Shape.{IsOf, IsWithin}
 use Rattle.rt_model.specs.laws.Local.{AgreeOn}
+use Rattle.rt_model.specs.laws.Cells.{CellsLaw}
 use Rattle.rt_model.proofs.EffectLocal.{effect}
 use Rattle.rt_model.proofs.Frame.{frame}
 use Rattle.rt_model.proofs.laws.Shape.{IsOf-after}
 use Rattle.rt_core.specs.Core.{Made}
-use Rattle.rt_core.proofs.Applying.{thread-there, fits_thread, named-left, names-within, state_left, lawful_left, kept-left}
+use Rattle.rt_core.proofs.Applying.{thread-there, fits_thread, named-left, names-within, state_left, lawful_left, cells_left, kept-left}
 use Rattle.rt_core.proofs.machine.Core.apply.Goals.{After-as_slice}
 use Rattle.rt_core.proofs.machine.Core.apply.Goals as goal
 
@@ -71,3 +72,7 @@ returns-clause-script c =
 
 pub returns-clause-lawful : goal.returns-clause-lawful
 returns-clause-lawful c = lawful_left _ _ _ _ c.args.e.now c.self.invariant.0 c.self.view_is c.requires.next c.requires.made c.make.new.shared c.index_mut.result.now _ c.index_mut.ensures.value c.make.ensures.shared c.make.ensures.thread
+
+pub returns-clause-cells : goal.returns-clause-cells
+returns-clause-cells c = λ script valid is law.
+    subst (CellsLaw script) (sym (returns-clause-state c)) (cells_left _ _ _ _ c.args.e.now c.self.invariant.0 c.self.view_is c.requires.next c.requires.made script valid is law)

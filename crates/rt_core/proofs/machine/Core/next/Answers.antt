@@ -3,7 +3,7 @@ use Rattle.rt_base.specs.Script.{Script}
 use Rattle.rt_base.specs.declared.id.TaskId.{TaskId}
 use Rattle.rt_model.specs.declared.event.Event.{Event}
 use Rattle.rt_model.specs.Parts.{ThreadPart, call_of}
-use Rattle.rt_model.specs.Stage.{IsServed}
+use Rattle.rt_model.specs.CallKinds.{IsServed}
 use Rattle.rt_model.specs.State.{State, shared, thread_part}
 use Rattle.rt_model.specs.declared.phase.Phase.TheVariants.{Confirm}
 use Rattle.rt_model.specs.NextEvent.{next_of, next_event}
@@ -31,7 +31,7 @@ own_task s t (Some e) is = task-next_event s t e (sym is)
 
 names_within : (s : State) (made : ℕ) (t : TaskId) (e : Option Event) → IsLawful s made → e ≡ next_event s t → IfSome e (IsWithin (length s.threads) (length s.locks))
 names_within s made t None lawful is = tt
-names_within s made t (Some e) lawful is = within s made t e lawful (choice s t e lawful.stage lawful.phases (sym is))
+names_within s made t (Some e) lawful is = within s made t e lawful (choice s t e lawful.calls lawful.phases (sym is))
 
 stays_next : (s : State) (t : TaskId) (e : Option Event) → e ≡ next_event s t → IfSome e (λ e. (other : State) → AgreeOn e s other → next_event other t ≡ Some e)
 stays_next s t None is = tt
@@ -40,7 +40,7 @@ stays_next s t (Some e) is = λ other agree. local s other t e (sym is) agree
 tells : (s : State) (made : ℕ) (t : TaskId) (e : Option Event) → IsLawful s made → e ≡ next_event s t
     → IfSome e (λ e. (script : Script) (number : ℕ) → IsOf script s → number < 2 ^ 64 → IsWellFormed script (entry number e))
 tells s made t None lawful is = tt
-tells s made t (Some e) lawful is = λ script number of few. let next = choice s t e lawful.stage lawful.phases (sym is) in well_formed script number s made t e of few lawful next (boost-within s made t e lawful next)
+tells s made t (Some e) lawful is = λ script number of few. let next = choice s t e lawful.calls lawful.phases (sym is) in well_formed script number s made t e of few lawful next (boost-within s made t e lawful next)
 
 pub next_of-requires-clause-served : goal.next_of-requires-clause-served
 next_of-requires-clause-served c =

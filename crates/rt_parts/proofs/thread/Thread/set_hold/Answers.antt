@@ -41,5 +41,4 @@ invariant_of-self c =
       holds = length-set c.self.inside.holds.items c.args.l.0 _ ∙ c.self.invariant.holds;
       spinning = recounted (goal.at.invariant_of-self c).After-spinning_hold-2;
       reads = All-set (λ (hold : Hold). hold.reads ≤ c.self.inside.answered) c.self.inside.holds.items c.args.l.0 c.args.hold reads c.self.invariant.reads;
-      pinned = c.self.invariant.pinned;
     }

@@ -1,5 +1,5 @@
 -- The locks that a line makes.
-use Rattle.std.proofs.Common.{◌≡◌, ◌⊎◌, inl, inr, ℕ, zero, suc, ◌+◌, ◌-◌, ◌<◌, ◌≤◌, true, List, [], ◌∷◌, ◌++◌, length, get_or, Option, Some, None, refl, sym, ap, ◌∙◌, subst, arith, add-one, length-append}
+use Rattle.std.proofs.Common.{◌≡◌, inl, inr, ℕ, zero, suc, ◌+◌, ◌-◌, ◌<◌, ◌≤◌, true, List, [], ◌∷◌, ◌++◌, length, get_or, Option, Some, None, refl, sym, ap, ◌∙◌, subst, arith, add-one, length-append}
 use Rattle.std.specs.Prelude.{All, ◌==◌}
 use Rattle.std.proofs.lemmas.Bool.{cases_lt}
 use Rattle.std.proofs.lemmas.Bool.Decides.{nat_tests}
@@ -77,49 +77,97 @@ first_at_zero cpus name kinds.Spin k d lt first = omega arith
 first_at_zero cpus name kinds.RwLock k d lt first = omega arith
 first_at_zero cpus name kinds.RwSem k d lt first = omega arith
 
--- the first of a line's locks, or one after another of the name
-abbrev pub FirstOrAfter : List LockLine → ℕ → Type 0
-FirstOrAfter locks i = (d : LockLine) → (is_first_cell (get_or locks i d).cell ≡ true) ⊎ ((j : ℕ) × (i ≡ suc j) × ((get_or locks j d).name ≡ (get_or locks i d).name))
+-- ---- what holds at each index of a line's locks, whatever stands around them, holds at each index of whole lines
 
-in_cells : (name : List ℕ) (n i : ℕ) → i < n → FirstOrAfter (cells_of name n) i
-in_cells name n zero lt d = inl (ap (λ (l : LockLine). is_first_cell l.cell) (cell_of name n 0 d lt))
-in_cells name n (suc j) lt d =
-    inr (j, refl, ap (λ (l : LockLine). l.name) (cell_of name n j d (omega arith)) ∙ sym (ap (λ (l : LockLine). l.name) (cell_of name n (suc j) d lt)))
+each_of_line : (P : List LockLine → ℕ → Type 0) (cpus : ℕ) → ((name : List ℕ) (i : ℕ) → i < cpus → P (cells_of name cpus) i) → ((name : List ℕ) (kind : Kind) (i : ℕ) → i < 1 → P (lone name kind ∷ []) i)
+    → (name : List ℕ) (kind : Kind) (i : ℕ) → i < length (locks_of cpus name kind) → P (locks_of cpus name kind) i
+each_of_line P cpus cells alone name kinds.Local i lt = cells name i (omega (arith, length-cells_of name cpus))
+each_of_line P cpus cells alone name kinds.Mutex i lt = alone name kinds.Mutex i lt
+each_of_line P cpus cells alone name kinds.Spin i lt = alone name kinds.Spin i lt
+each_of_line P cpus cells alone name kinds.RwLock i lt = alone name kinds.RwLock i lt
+each_of_line P cpus cells alone name kinds.RwSem i lt = alone name kinds.RwSem i lt
 
-in_lone : (name : List ℕ) (kind : Kind) (i : ℕ) → i < 1 → FirstOrAfter (lone name kind ∷ []) i
-in_lone name kind zero lt d = inl refl
-in_lone name kind (suc i) lt d = absurd (omega arith)
-
-in_line : (cpus : ℕ) (name : List ℕ) (kind : Kind) (i : ℕ) → i < length (locks_of cpus name kind) → FirstOrAfter (locks_of cpus name kind) i
-in_line cpus name kinds.Local i lt = in_cells name cpus i (omega (arith, length-cells_of name cpus))
-in_line cpus name kinds.Mutex i lt = in_lone name kinds.Mutex i lt
-in_line cpus name kinds.Spin i lt = in_lone name kinds.Spin i lt
-in_line cpus name kinds.RwLock i lt = in_lone name kinds.RwLock i lt
-in_line cpus name kinds.RwSem i lt = in_lone name kinds.RwSem i lt
-
-in_front : (xs ys : List LockLine) (i : ℕ) → i < length xs → FirstOrAfter xs i → FirstOrAfter (xs ++ ys) i
-in_front xs ys i lt h d = elim (h d) [
-  | inl first ↦ inl (rw (get_or_append_left xs ys d i lt) first)
-  | inr behind ↦ inr (behind.0, behind.1, rw (get_or_append_left xs ys d i lt, get_or_append_left xs ys d behind.0 (omega (arith, behind.1))) behind.2)
-]
-
-in_back : (xs ys : List LockLine) (i : ℕ) → FirstOrAfter ys i → FirstOrAfter (xs ++ ys) (length xs + i)
-in_back xs ys i h d = elim (h d) [
-  | inl first ↦ inl (rw (get_or-append-add xs ys i d) first)
-  | inr behind ↦ inr (length xs + behind.0, omega (arith, behind.1), rw (get_or-append-add xs ys i d, get_or-append-add xs ys behind.0 d) behind.2)
-]
-
--- each lock of whole lines is the first of its line, or one after another of its name
-pub in_lines : (cpus : ℕ) (lines : List (List ℕ × Kind)) (i : ℕ) → i < length (locks_of_lines cpus lines) → FirstOrAfter (locks_of_lines cpus lines) i
-in_lines cpus [] i lt = absurd (omega arith)
-in_lines cpus (line ∷ lines) i lt =
+each_of_lines : (P : List LockLine → ℕ → Type 0) (cpus : ℕ) → ((name : List ℕ) (i : ℕ) → i < cpus → P (cells_of name cpus) i) → ((name : List ℕ) (kind : Kind) (i : ℕ) → i < 1 → P (lone name kind ∷ []) i)
+    → ((xs ys : List LockLine) (i : ℕ) → i < length xs → P xs i → P (xs ++ ys) i) → ((xs ys : List LockLine) (i : ℕ) → P ys i → P (xs ++ ys) (length xs + i))
+    → (lines : List (List ℕ × Kind)) (i : ℕ) → i < length (locks_of_lines cpus lines) → P (locks_of_lines cpus lines) i
+each_of_lines P cpus cells alone before after [] i lt = absurd (omega arith)
+each_of_lines P cpus cells alone before after (line ∷ lines) i lt =
     let xs : List LockLine = locks_of cpus line.0 line.1 in
     let ys : List LockLine = locks_of_lines cpus lines in
     let len : length (xs ++ ys) ≡ length xs + length ys = length-append xs ys in
     elim (cases_lt i (length xs)) [
-      | inl front ↦ in_front xs ys i front (in_line cpus line.0 line.1 i front)
-      | inr back ↦ let at : length xs + (i - length xs) ≡ i = omega arith in subst (FirstOrAfter (xs ++ ys)) at (in_back xs ys (i - length xs) (in_lines cpus lines (i - length xs) (omega arith)))
+      | inl front ↦ before xs ys i front (each_of_line P cpus cells alone line.0 line.1 i front)
+      | inr back ↦
+          let at : length xs + (i - length xs) ≡ i = omega arith in
+          subst (P (xs ++ ys)) at (after xs ys (i - length xs) (each_of_lines P cpus cells alone before after lines (i - length xs) (omega arith)))
     ]
+
+-- ---- a cell stands as far after the first of its name as its processor's number says
+
+-- the number of a cell's processor
+abbrev pub rank : Option Cpu → ℕ
+rank None = 0
+rank (Some cpu) = cpu.0
+
+-- the first lock of the name stands so far before index i
+abbrev pub HasFirst : List LockLine → ℕ → Type 0
+HasFirst locks i = (d : LockLine) → (j : ℕ) × (i ≡ j + rank (get_or locks i d).cell) × ((get_or locks j d).name ≡ (get_or locks i d).name) × (is_first_cell (get_or locks j d).cell ≡ true)
+
+first_of_cells : (name : List ℕ) (n i : ℕ) → i < n → HasFirst (cells_of name n) i
+first_of_cells name n i lt d =
+    let at = cell_of name n i d lt in
+    let first = cell_of name n 0 d (omega arith) in
+    let is : i ≡ rank (get_or (cells_of name n) i d).cell = ap (λ (l : LockLine). rank l.cell) (sym at) in
+    (0, omega arith, ap (λ (l : LockLine). l.name) first ∙ sym (ap (λ (l : LockLine). l.name) at), ap (λ (l : LockLine). is_first_cell l.cell) first)
+
+first_of_lone : (name : List ℕ) (kind : Kind) (i : ℕ) → i < 1 → HasFirst (lone name kind ∷ []) i
+first_of_lone name kind zero lt d = (0, refl, refl, refl)
+first_of_lone name kind (suc i) lt d = absurd (omega arith)
+
+first_before : (xs ys : List LockLine) (i : ℕ) → i < length xs → HasFirst xs i → HasFirst (xs ++ ys) i
+first_before xs ys i lt h d =
+    let f = h d in
+    (f.0, rw (get_or_append_left xs ys d i lt) f.1, rw (get_or_append_left xs ys d i lt, get_or_append_left xs ys d f.0 (omega (arith, f.1))) f.2, rw (get_or_append_left xs ys d f.0 (omega (arith, f.1))) f.3)
+
+first_after : (xs ys : List LockLine) (i : ℕ) → HasFirst ys i → HasFirst (xs ++ ys) (length xs + i)
+first_after xs ys i h d =
+    let f = h d in
+    (length xs + f.0, rw (get_or-append-add xs ys i d) (omega (arith, f.1)), rw (get_or-append-add xs ys i d, get_or-append-add xs ys f.0 d) f.2, rw (get_or-append-add xs ys f.0 d) f.3)
+
+pub first_in_lines : (cpus : ℕ) (lines : List (List ℕ × Kind)) (i : ℕ) → i < length (locks_of_lines cpus lines) → HasFirst (locks_of_lines cpus lines) i
+first_in_lines cpus = each_of_lines HasFirst cpus (λ name. first_of_cells name cpus) first_of_lone first_before first_after
+
+-- ---- from the cell of processor 0 on, each processor's cell follows
+
+abbrev pub HasCells : ℕ → List LockLine → ℕ → Type 0
+HasCells cpus locks i = (d : LockLine) → (get_or locks i d).cell ≡ Some (record { 0 = 0 }) → (c : ℕ) → c < cpus → (i + c < length locks) × (get_or locks (i + c) d ≡ cell_at (get_or locks i d).name c)
+
+cells_of_cells : (name : List ℕ) (n i : ℕ) → i < n → HasCells n (cells_of name n) i
+cells_of_cells name n i lt d is c below =
+    let at = cell_of name n i d lt in
+    let zero : i ≡ 0 = ap (λ (l : LockLine). rank l.cell) (sym at) ∙ ap rank is in
+    let same : i + c ≡ c = omega (arith, zero) in
+    (omega (arith, length-cells_of name n), ap (λ (k : ℕ). get_or (cells_of name n) k d) same ∙ cell_of name n c d below ∙ ap (λ (l : LockLine). cell_at l.name c) (sym at))
+
+cells_of_lone : (cpus : ℕ) (name : List ℕ) (kind : Kind) (i : ℕ) → i < 1 → HasCells cpus (lone name kind ∷ []) i
+cells_of_lone cpus name kind zero lt d is c below = absurd cc
+cells_of_lone cpus name kind (suc i) lt d is c below = absurd (omega arith)
+
+cells_before : (cpus : ℕ) (xs ys : List LockLine) (i : ℕ) → i < length xs → HasCells cpus xs i → HasCells cpus (xs ++ ys) i
+cells_before cpus xs ys i lt h d is c below =
+    let same = get_or_append_left xs ys d i lt in
+    let f = h d (ap (λ (l : LockLine). l.cell) (sym same) ∙ is) c below in
+    (omega (arith, f.0, length-append xs ys), get_or_append_left xs ys d (i + c) f.0 ∙ f.1 ∙ ap (λ (l : LockLine). cell_at l.name c) (sym same))
+
+cells_after : (cpus : ℕ) (xs ys : List LockLine) (i : ℕ) → HasCells cpus ys i → HasCells cpus (xs ++ ys) (length xs + i)
+cells_after cpus xs ys i h d is c below =
+    let same = get_or-append-add xs ys i d in
+    let f = h d (ap (λ (l : LockLine). l.cell) (sym same) ∙ is) c below in
+    let sum : length xs + i + c ≡ length xs + (i + c) = omega arith in
+    (omega (arith, f.0, length-append xs ys), ap (λ (k : ℕ). get_or (xs ++ ys) k d) sum ∙ get_or-append-add xs ys (i + c) d ∙ f.1 ∙ ap (λ (l : LockLine). cell_at l.name c) (sym same))
+
+pub cells_in_lines : (cpus : ℕ) (lines : List (List ℕ × Kind)) (i : ℕ) → i < length (locks_of_lines cpus lines) → HasCells cpus (locks_of_lines cpus lines) i
+cells_in_lines cpus = each_of_lines (HasCells cpus) cpus (λ name. cells_of_cells name cpus) (cells_of_lone cpus) (cells_before cpus) (cells_after cpus)
 
 -- a local lock's first cell is that of processor 0
 cell_is_first : (cpus : ℕ) (cell : Option Cpu) → IsCellOf cpus kinds.Local cell → is_first_cell cell ≡ true → cell ≡ Some (record { 0 = 0 })

@@ -1,19 +1,35 @@
 -- A script stays one when a line is added to it.
 use Rattle.std.proofs.Common.{◌≡◌, ℕ, ◌+◌, ◌<◌, ◌≤◌, List, [], ◌∷◌, ◌++◌, length, get_or, set, refl, sym, ap, arith, length-append, length-set}
 use Rattle.std.specs.Prelude.{None, All}
-use Rattle.std.proofs.lemmas.List.Elements.{All-push, All-append, All-weaker, All-set}
+use Rattle.std.proofs.lemmas.List.Elements.{All-nil, All-push, All-append, All-weaker, All-set}
 use Rattle.std.proofs.lemmas.List.Sums.{sum-map, sum_by_push, sum_by-set}
 use Rattle.rt_base.specs.declared.call.Call.{Call}
 use Rattle.rt_base.specs.declared.call.Call.TheVariants.{Lock, LockInt, TryLock, Unlock, Spin, TrySpin, Unspin, Read, TryRead, Unread, Write, TryWrite, Unwrite, Downgrade, Local, Unlocal, State, Schedule, Wake, Signal, SetPrio, Move}
 use Rattle.rt_base.specs.declared.id.TaskId.{TaskId}
 use Rattle.rt_base.specs.declared.id.LockId.{LockId}
 use Rattle.rt_base.specs.Script.{Script, TaskLine, LockLine, task_line, all_calls, IsLockOf, IsMutex, IsSpin, IsReaderLock, IsLocal, IsCallOf, IsTaskOf, IsLockWithin, IsScript}
-use Rattle.rt_script.specs.Adding.{with_task, with_locks, with_call, with_pick}
-use Rattle.rt_base.specs.declared.limits.TheConstants.{MAX_CALLS, MAX_LOCKS, MAX_PICKS, MAX_TASKS}
+use Rattle.rt_script.specs.Adding.{empty_script, with_cpus, with_task, with_locks, with_call, with_pick}
+use Rattle.rt_base.specs.declared.limits.TheConstants.{MAX_CALLS, MAX_CPUS, MAX_LOCKS, MAX_PICKS, MAX_TASKS}
 use Rattle.rt_script.specs.Names.{named, AreNewLocks}
 use Rattle.rt_script.proofs.Cells.{fit_of}
 use Rattle.rt_script.proofs.ScriptParts.{no_task, task_line_at, task_fits, IsLockOf-append}
 use Rattle.rt_script.proofs.OwnNames.{HasOwnNames-with_task, HasOwnNames-with_locks, HasWholeLocks-with_locks, HasOwnNames-with_call}
+
+-- ---- the number of processors, where nothing was added yet
+
+pub IsScript-of_cpus : (n : ℕ) → 1 ≤ n → n ≤ MAX_CPUS → IsScript (with_cpus empty_script n)
+IsScript-of_cpus n some few = record {
+  cpus = (some, few);
+  tasks = omega arith;
+  locks = omega arith;
+  calls = omega arith;
+  picks = omega arith;
+  each_task = All-nil (IsTaskOf (with_cpus empty_script n));
+  each_lock = All-nil (IsLockWithin n);
+  each_pick = All-nil (λ (t : TaskId). t.0 < 0);
+  names = record { task = λ t lt. absurd (omega arith); lock = λ l lt first. absurd (omega arith); apart = λ l lt. absurd (omega arith) };
+  whole = ([], refl);
+}
 
 -- ---- what a call names is still there
 

@@ -1,6 +1,7 @@
 pub mod CallFits
 pub mod Cells
 pub mod Growth
+pub mod Lookups
 pub mod Naming
 pub mod Numbers
 pub mod OwnNames

@@ -157,6 +157,10 @@ pub no_index : (s : Script) (name : List ℕ) → named s name ≡ None → (tas
 unfolding named
 no_index s name e = none_of (task_place s name) (lock_place s name) e
 
+pub task_index_of : (s : Script) (name : List ℕ) (t : TaskId) → named s name ≡ Some (Task t) → task_place s name ≡ Some t.0
+unfolding named
+task_index_of s name t e = task_is (task_place s name) (lock_place s name) t e
+
 pub lock_index_of : (s : Script) (name : List ℕ) (l : LockId) → named s name ≡ Some (Lock l) → lock_place s name ≡ Some l.0
 unfolding named
 lock_index_of s name l e = lock_is (task_place s name) (lock_place s name) l e

@@ -1,6 +1,6 @@
 -- The digits of a number, read one after the other.
 use Rattle.std.proofs.Common.{◌≡◌, ℕ, zero, suc, ◌+◌, ◌*◌, ◌<◌, ◌≤◌, Bool, true, false, ◌&&◌, List, [], ◌∷◌, length, get_or, leb, Some, None, refl, sym, ap, subst, ◌∙◌, arith}
-use Rattle.std.specs.Prelude.{decimal, bytes_eq}
+use Rattle.std.specs.Prelude.{decimal, bytes_eq, ◌^◌}
 use Rattle.std.specs.Char.{digit_value}
 use Rattle.std.specs.Str.{all_ascii_digits}
 use Rattle.std.specs.Str.Parse.{digits_value, digits_value_after}
@@ -65,7 +65,7 @@ spelled word e = (bytes_eq-Decides (decimal (digits_value 10 word)) word).0 e
 pub number_upto-empty : (most : ℕ) → number_upto most [] ≡ None
 number_upto-empty most = number_upto-tested most [] ∙ rw (decimal_digit 0 (omega arith)) refl
 
-no_zero_first : (n : ℕ) (word : List ℕ) → n < 256 → decimal n ≡ word → get_or word 0 0 ≡ 48 → 1 < length word → ⊥
+no_zero_first : (n : ℕ) (word : List ℕ) → n < 2 ^ 64 → decimal n ≡ word → get_or word 0 0 ≡ 48 → 1 < length word → ⊥
 no_zero_first zero word small e z long =
     let len : length word ≡ 1 = rw (← e, decimal_digit 0 (omega arith)) refl in
     omega arith
@@ -73,13 +73,13 @@ no_zero_first (suc n) word small e z long =
     let more : 48 < get_or word 0 0 = rw (← e) (first_decimal (suc n) (omega arith) (omega arith)) in
     omega arith
 
-pub number_upto-zero : (most : ℕ) (word : List ℕ) → most < 256 → get_or word 0 0 ≡ 48 → 1 < length word → number_upto most word ≡ None
+pub number_upto-zero : (most : ℕ) (word : List ℕ) → most < 2 ^ 64 → get_or word 0 0 ≡ 48 → 1 < length word → number_upto most word ≡ None
 number_upto-zero most word small z long =
     let v : ℕ = digits_value 10 word in
     let no : tested most word ≡ false = not_both _ _ (λ e le. no_zero_first v word (omega (arith, leb-true v most le)) (spelled word e) z long) in
     number_upto-tested most word ∙ rw no refl
 
-pub number_upto-digits : (most : ℕ) (word : List ℕ) → most < 256 → 0 < length word → (get_or word 0 0 ≡ 48 → length word ≡ 1) → digits_upto most 0 word ≡ number_upto most word
+pub number_upto-digits : (most : ℕ) (word : List ℕ) → most < 2 ^ 64 → 0 < length word → (get_or word 0 0 ≡ 48 → length word ≡ 1) → digits_upto most 0 word ≡ number_upto most word
 number_upto-digits most word small some first =
     let v : ℕ = digits_value 10 word in
     let to : leb v most ≡ true → all_ascii_digits word ≡ true → bytes_eq (decimal v) word ≡ true =

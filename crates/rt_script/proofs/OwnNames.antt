@@ -24,7 +24,7 @@ use Rattle.rt_script.specs.declared.named.Named.TheVariants.{Task, Lock}
 use Rattle.rt_script.specs.Judging.{need}
 use Rattle.rt_script.specs.Adding.{with_task, with_locks, with_call}
 use Rattle.rt_script.specs.Names.{named, only_lock, lock_named, AreNewLocks}
-use Rattle.rt_script.proofs.Cells.{some_of, named_of, first_at_zero, in_lines}
+use Rattle.rt_script.proofs.Cells.{some_of, named_of, first_at_zero, first_in_lines}
 use Rattle.rt_script.proofs.ScriptParts.{no_task, no_lock, task_line_at, lock_line_at}
 use Rattle.rt_script.proofs.Naming.{position_push, position-set, locks_found, same_test, no_index, lock_index_of, names-with_locks}
 
@@ -176,12 +176,13 @@ first_of_lines : (cpus : ℕ) (lines : List (List ℕ × Kind)) (name : List ℕ
 first_of_lines cpus lines name i d e =
     let xs : List LockLine = locks_of_lines cpus lines in
     let found = position-Some (λ (l : LockLine). bytes_eq name l.name) xs i d e in
-    elim (in_lines cpus lines i found.0 d) [
-      | inl first ↦ first
-      | inr behind ↦
-          let none : bytes_eq name (get_or xs behind.0 d).name ≡ false = found.2 behind.0 (omega (arith, behind.1)) in
-          let some : bytes_eq name (get_or xs behind.0 d).name ≡ true = ap (bytes_eq name) behind.2 ∙ found.1 in
+    let f = first_in_lines cpus lines i found.0 d in
+    elim (cases_lt f.0 i) [
+      | inl before ↦
+          let none : bytes_eq name (get_or xs f.0 d).name ≡ false = found.2 f.0 before in
+          let some : bytes_eq name (get_or xs f.0 d).name ≡ true = ap (bytes_eq name) f.2 ∙ found.1 in
           absurd cc
+      | inr at ↦ let same : f.0 ≡ i = omega (arith, f.1) in subst (λ (k : ℕ). is_first_cell (get_or xs k d).cell ≡ true) same f.3
     ]
 
 pub first_named : (s : Script) (name : List ℕ) (l : LockId) → IsScript s → named s name ≡ Some (Lock l) → is_first_cell (lock_line s l).cell ≡ true

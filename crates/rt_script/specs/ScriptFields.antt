@@ -14,10 +14,11 @@ use Rattle.indexmap.specs.IndexMap.{get_by_text}
 abbrev pub script_of_fields : Inside → Script
 script_of_fields s = record { cpus = s.cpus; tasks = s.tasks.items; locks = s.locks.items; picks = s.picks.items }
 
--- the fields hold a script, and the count of its calls
+-- the fields hold a script, the count of its calls, and in a map its names, each with what it stands for
 pub record AreFields (s : Inside) : Type 0 where
   pub script : IsScript (script_of_fields s)
   pub calls : s.all_calls ≡ all_calls (script_of_fields s)
+  pub names : (name : List ℕ) → get_by_text s.names name ≡ named (script_of_fields s) name
 
 -- the pieces of what is left of a text, cut at a byte
 abbrev pub pieces_left : ℕ → Option (Bor (List ℕ)) → List (List ℕ)
@@ -28,7 +29,6 @@ pieces_left separator (Some rest) = slice_split (λ b. b == separator) rest.now
 abbrev pub so_far_of_draft : DraftFields → SoFar
 so_far_of_draft d = record { script = d.script; begun = d.begun }
 
--- the map has the names of the script, each with what it stands for; before the first line there is nothing
-pub record HasNames (d : DraftFields) : Type 0 where
-  pub each : (name : List ℕ) → get_by_text d.names name ≡ named d.script name
-  pub empty : d.begun ≡ false → d.script ≡ empty_script
+-- before the first line there is nothing
+abbrev pub BeginsEmpty : DraftFields → Type 0
+BeginsEmpty d = d.begun ≡ false → d.script ≡ empty_script

@@ -13,19 +13,16 @@ pub(crate) mod line;
 use crate::fault::Why;
 use crate::line_error::LineError;
 use crate::name::is_name;
-use crate::named::Named;
 use crate::script::Script;
-use indexmap::IndexMap;
 use rt_base::{LockId, TaskId};
 use std::alloc::Global;
 use std::marker::Model;
 use std::str;
 
-/// The script that the lines read so far make, its names, and whether any line was more than passed over.
+/// The script that the lines read so far make, and whether any line was more than passed over.
 #[derive(Drop)]
 pub(crate) struct Draft {
     script: Script,
-    names: IndexMap<String, Named>,
     begun: bool,
 }
 
@@ -34,11 +31,11 @@ impl Model for Draft {
 
     ghost Value = { SoFar };
 
-    ghost use Rattle.rt_script.specs.ScriptFields.{so_far_of_draft, HasNames};
+    ghost use Rattle.rt_script.specs.ScriptFields.{so_far_of_draft, BeginsEmpty};
 
     ghost view = { so_far_of_draft };
 
-    ghost invariant = { HasNames };
+    ghost invariant = { BeginsEmpty };
 }
 
 impl Draft {
@@ -48,7 +45,6 @@ impl Draft {
     {
         Draft {
             script: Script::new(alloc),
-            names: IndexMap::new(alloc),
             begun: false,
         }
     }
@@ -67,25 +63,14 @@ impl Draft {
         &self.script
     }
 
-    /// What a name stands for.
-    fn named(&self, name: &[u8]) -> Option<Named>
-        ensures { result ≡ named self.now.script name.now }
-    {
-        let names = &self.names;
-        match str::from_utf8(name) {
-            Ok(text) => names.get(text).copied(),
-            Err(_) => None,
-        }
-    }
-
     /// The task of that name.
     fn task_named(&self, name: &[u8]) -> Result<TaskId, LineError>
         ensures task { Gives (λ t. t) result (need Unknown (task_named self.now.script name.now)) }
         ensures within { IfOk result (λ t. t.0 < length self.now.script.tasks) }
     {
-        match self.named(name) {
-            Some(Named::Task(t)) => Ok(t),
-            Some(Named::Lock(_)) | None => Err(LineError::Fault(Why::Unknown)),
+        match self.script.task_named(name) {
+            Some(t) => Ok(t),
+            None => Err(LineError::Fault(Why::Unknown)),
         }
     }
 
@@ -94,9 +79,9 @@ impl Draft {
         ensures lock { Gives (λ l. l) result (need Unknown (lock_named self.now.script name.now)) }
         ensures within { IfOk result (λ l. l.0 < length self.now.script.locks) }
     {
-        match self.named(name) {
-            Some(Named::Lock(l)) => Ok(l),
-            Some(Named::Task(_)) | None => Err(LineError::Fault(Why::Unknown)),
+        match self.script.lock_named(name) {
+            Some(l) => Ok(l),
+            None => Err(LineError::Fault(Why::Unknown)),
         }
     }
 
@@ -109,8 +94,10 @@ impl Draft {
         if !is_name(word) {
             return Err(LineError::Fault(Why::BadName));
         }
+        if self.script.named(word).is_some() {
+            return Err(LineError::Fault(Why::NameTwice));
+        }
         match str::from_utf8(word) {
-            Ok(text) if self.names.get(text).is_some() => Err(LineError::Fault(Why::NameTwice)),
             Ok(text) => Ok(String::from_str(alloc, text)?),
             Err(_) => Err(LineError::Fault(Why::BadName)),
         }

@@ -9,7 +9,7 @@ mod line_error;
 mod lock;
 mod name;
 mod named;
-mod number;
+mod numeral;
 mod pieces;
 mod reading;
 mod script;
@@ -19,6 +19,8 @@ mod verb;
 mod writing;
 
 pub use fault::{ScriptFault, Why};
+pub use numeral::number;
+pub use pieces::Pieces;
 pub use reading::read_script;
 pub use script::Script;
 

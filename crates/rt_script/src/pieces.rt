@@ -12,7 +12,7 @@ use std::marker::Model;
 
 /// The pieces of a text that are still to be read: what stands between the separators.
 #[derive(Drop)]
-pub(crate) struct Pieces<'a> {
+pub struct Pieces<'a> {
     rest: Option<&'a [u8]>,
     separator: u8,
 }
@@ -29,7 +29,7 @@ impl<'a> Model for Pieces<'a> {
 
 impl<'a> Pieces<'a> {
     /// All pieces of a text: the words of a line, or the lines of a text and what stands after its last line feed.
-    pub(crate) fn new(text: &'a [u8], separator: u8) -> Pieces<'a>
+    pub fn new(text: &'a [u8], separator: u8) -> Pieces<'a>
         ensures { result ≡ slice_split (λ b. b == separator) text.now }
     {
         Pieces {
@@ -49,7 +49,7 @@ impl<'a> Pieces<'a> {
     }
 
     /// Takes the next piece, where there is one.
-    pub(crate) fn next(&mut self) -> Option<&'a [u8]>
+    pub fn next(&mut self) -> Option<&'a [u8]>
         ensures { MatchOption result ((self.old ≡ []) × (self.new ≡ []))
             (λ piece. self.old ≡ piece.now ∷ self.new) }
     {

@@ -1,17 +1,20 @@
-ghost use Rattle.std.specs.Prelude.{◌≡◌, ◌+◌, ◌<◌, ◌≤◌, ℕ, List, [], length, true, None, OnOk, OnErr};
+ghost use Rattle.std.specs.Prelude.{◌≡◌, ◌+◌, ◌<◌, ◌≤◌, [], length, true, None, IfSome, OnOk, OnErr, string_bytes};
 ghost use Rattle.rt_base.specs.Name.{is_name};
 ghost use Rattle.rt_base.specs.Script.{task_line, lock_line, all_calls, budget_of, IsScript, IsTaskOf, IsCallOf, IsCellOf, IsLockWithin};
-ghost use Rattle.rt_script.specs.Names.{named, AreNewLocks};
+ghost use Rattle.rt_script.specs.Names.{named, task_named, lock_named, AreNewLocks};
 ghost use Rattle.rt_script.specs.Adding.{empty_script, with_cpus, with_task, with_locks, with_call, with_pick};
 
 use crate::lock::Lock;
+use crate::named::Named;
 use crate::task::Task;
+use indexmap::IndexMap;
 use rt_base::limits::{
     BUDGET_FACTOR, MAX_CALLS, MAX_CPUS, MAX_LOCKS, MAX_NAME, MAX_PICKS, MAX_TASKS,
 };
 use rt_base::{Call, Cpu, Kind, LockId, Prio, TaskId};
 use std::alloc::{AllocError, Global};
 use std::marker::Model;
+use std::str;
 
 /// A lock script: tasks with their calls, locks, and the picks that a replay begins with.
 #[derive(Drop)]
@@ -21,6 +24,7 @@ pub struct Script {
     locks: Vec<Lock>,
     picks: Vec<TaskId>,
     all_calls: u32,
+    names: IndexMap<String, Named>,
 }
 
 impl Model for Script {
@@ -136,6 +140,28 @@ impl Script {
         self.lock(l).cell
     }
 
+    /// The task of that name, which is looked up in one step.
+    pub fn task_named(&self, name: &[u8]) -> Option<TaskId>
+        ensures task { result ≡ task_named self.now name.now }
+        ensures within { IfSome result (λ t. t.0 < length self.now.tasks) }
+    {
+        match self.named(name) {
+            Some(Named::Task(t)) => Some(t),
+            Some(Named::Lock(_)) | None => None,
+        }
+    }
+
+    /// The lock of that name, which is looked up in one step; the cell of processor 0 for a local lock.
+    pub fn lock_named(&self, name: &[u8]) -> Option<LockId>
+        ensures lock { result ≡ lock_named self.now name.now }
+        ensures within { IfSome result (λ l. l.0 < length self.now.locks) }
+    {
+        match self.named(name) {
+            Some(Named::Lock(l)) => Some(l),
+            Some(Named::Task(_)) | None => None,
+        }
+    }
+
     /// How many events a replay in the stated order gets where no number is asked for.
     pub fn budget(&self) -> u64
         ensures { result ≡ budget_of self.now }
@@ -154,6 +180,18 @@ impl Script {
             locks: Vec::new(alloc),
             picks: Vec::new(alloc),
             all_calls: 0,
+            names: IndexMap::new(alloc),
+        }
+    }
+
+    /// What a name stands for.
+    pub(crate) fn named(&self, name: &[u8]) -> Option<Named>
+        ensures { result ≡ named self.now name.now }
+    {
+        let names = &self.names;
+        match str::from_utf8(name) {
+            Ok(text) => names.get(text).copied(),
+            Err(_) => None,
         }
     }
 
@@ -176,18 +214,29 @@ impl Script {
         ensures ok { OnOk result (self.new ≡ with_task self.old task) }
         ensures err { OnErr result (self.new ≡ self.old) }
     {
+        let id = TaskId(self.tasks.len() as u32);
+        let name = task.name.clone()?;
+        self.names.reserve(1)?;
         self.tasks.push(task)?;
+        self.names.insert(name, Named::Task(id))?;
         Ok(())
     }
 
-    /// Adds the locks of one line after the others. An `Err` changes nothing.
-    pub(crate) fn push_locks(&mut self, mut locks: Vec<Lock>) -> Result<(), AllocError>
+    /// Adds the locks of one line, which have that name, after the others. An `Err` changes nothing.
+    pub(crate) fn push_locks(
+        &mut self,
+        name: String,
+        mut locks: Vec<Lock>,
+    ) -> Result<(), AllocError>
         requires room { length self.old.locks + length locks.items ≤ MAX_LOCKS }
-        requires added { (name : List ℕ) × AreNewLocks self.old name locks.items }
+        requires added { AreNewLocks self.old (string_bytes name) locks.items }
         ensures ok { OnOk result (self.new ≡ with_locks self.old locks.items) }
         ensures err { OnErr result (self.new ≡ self.old) }
     {
+        let id = LockId(self.locks.len() as u32);
+        self.names.reserve(1)?;
         self.locks.append(&mut locks)?;
+        self.names.insert(name, Named::Lock(id))?;
         Ok(())
     }
 

@@ -9,7 +9,7 @@ ghost use Rattle.rt_script.specs.declared.fault.Why.TheVariants.{BadNumber};
 
 use crate::fault::Why;
 use crate::line_error::LineError;
-use crate::number::number;
+use crate::numeral::number;
 use crate::script::Script;
 use rt_base::limits::{MAX_CPU, MAX_CPUS, MAX_PRIO};
 use rt_base::{Cpu, Kind, Prio, TaskState};
@@ -19,10 +19,10 @@ pub(crate) fn prio_spelled(word: &[u8]) -> Result<Prio, LineError>
     ensures value { Gives (λ prio. prio) result (need BadNumber (number_upto MAX_PRIO word.now)) }
     ensures within { IfOk result (λ prio. prio ≤ MAX_PRIO) }
 {
-    let Some(n) = number(word, MAX_PRIO) else {
+    let Some(n) = number(word, MAX_PRIO as u64) else {
         return Err(LineError::Fault(Why::BadNumber));
     };
-    match Prio::new(n as u64) {
+    match Prio::new(n) {
         Some(prio) => Ok(prio),
         None => Err(LineError::Fault(Why::BadNumber)),
     }
@@ -33,8 +33,8 @@ pub(crate) fn cpus_spelled(word: &[u8]) -> Result<u8, LineError>
     ensures value { Gives (λ n. n) result (need BadNumber (cpus_spelled word.now)) }
     ensures within { IfOk result (λ n. (1 ≤ n) × (n ≤ MAX_CPUS)) }
 {
-    match number(word, MAX_CPUS) {
-        Some(n) if n > 0 => Ok(n),
+    match number(word, MAX_CPUS as u64) {
+        Some(n) if n > 0 => Ok(n as u8),
         _ => Err(LineError::Fault(Why::BadNumber)),
     }
 }
@@ -44,8 +44,8 @@ pub(crate) fn cpu_spelled(script: &Script, word: &[u8]) -> Result<Cpu, LineError
     ensures value { Gives (λ cpu. cpu) result (need BadNumber (cpu_spelled script.now word.now)) }
     ensures within { IfOk result (λ cpu. cpu.0 < script.now.cpus) }
 {
-    match number(word, MAX_CPU) {
-        Some(n) if n < script.cpus() => Ok(Cpu(n)),
+    match number(word, MAX_CPU as u64) {
+        Some(n) if n < script.cpus() as u64 => Ok(Cpu(n as u8)),
         _ => Err(LineError::Fault(Why::BadNumber)),
     }
 }

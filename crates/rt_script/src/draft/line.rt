@@ -11,12 +11,10 @@ use crate::fault::Why;
 use crate::keyword::Keyword;
 use crate::line_error::LineError;
 use crate::lock::locks_of;
-use crate::named::Named;
 use crate::pieces::Pieces;
 use crate::spelling::{cpu_spelled, cpus_spelled, kind_spelled, prio_spelled};
 use crate::task::Task;
 use rt_base::limits::{MAX_CALLS, MAX_LOCKS, MAX_PICKS, MAX_TASKS};
-use rt_base::{LockId, TaskId};
 use std::alloc::Global;
 
 impl Draft {
@@ -81,11 +79,7 @@ impl Draft {
             return Err(LineError::Fault(Why::TooMany));
         }
         self.begun = true;
-        let id = TaskId(self.script.tasks());
-        let key = name.clone()?;
-        self.names.reserve(1)?;
         self.script.push_task(Task::new(alloc, name, own, cpu))?;
-        self.names.insert(key, Named::Task(id))?;
         Ok(())
     }
 
@@ -104,10 +98,7 @@ impl Draft {
             return Err(LineError::Fault(Why::TooMany));
         }
         self.begun = true;
-        let id = LockId(self.script.locks());
-        self.names.reserve(1)?;
-        self.script.push_locks(locks)?;
-        self.names.insert(name, Named::Lock(id))?;
+        self.script.push_locks(name, locks)?;
         Ok(())
     }
 

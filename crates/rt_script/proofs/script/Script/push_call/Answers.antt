@@ -3,6 +3,7 @@ use Rattle.std.proofs.lemmas.Option.{slice_get_read}
 use Rattle.rt_base.specs.Script.{Script, task_line}
 use Rattle.rt_script.specs.ScriptFields.{script_of_fields}
 use Rattle.rt_script.proofs.Growth.{IsScript-with_call}
+use Rattle.rt_script.proofs.Naming.{named-with_call}
 use Rattle.rt_script.proofs.script.Script.push_call.Goals as goal
 
 -- the task with the call after its others
@@ -20,7 +21,11 @@ invariant_of-self-2 c =
     let room = rw (← c.self.view_is) at c.requires.room in
     let fits = rw (← c.self.view_is) at c.requires.fits in
     let h = IsScript-with_call s c.args.t c.args.call c.self.invariant.script there (omega arith) fits in
-    record { script = rw (called c) h.0; calls = rw (called c) (ap (λ n. n + 1) c.self.invariant.calls ∙ sym h.1) }
+    record {
+      script = rw (called c) h.0;
+      calls = rw (called c) (ap (λ n. n + 1) c.self.invariant.calls ∙ sym h.1);
+      names = λ name. rw (called c) (c.self.invariant.names name ∙ sym (named-with_call s c.args.t c.args.call name));
+    }
 
 pub returns-clause-ok : goal.returns-clause-ok
 returns-clause-ok c = rw (called c, ← c.self.view_is) refl

@@ -1,5 +1,0 @@
-use Rattle.rt_script.proofs.Naming.{named_lock_within}
-use Rattle.rt_script.proofs.draft.Draft.lock_named.Goals as goal
-
-pub returns-in-Some-Lock-clause-within : goal.returns-in-Some-Lock-clause-within
-returns-in-Some-Lock-clause-within c = named_lock_within c.args.self.now.script c.args.name.now c.in-Some-Lock.l cc

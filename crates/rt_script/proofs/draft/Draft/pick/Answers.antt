@@ -1,9 +1,0 @@
-use Rattle.std.proofs.Common.{sym, ◌∙◌}
-use Rattle.rt_script.proofs.Naming.{named-with_pick}
-use Rattle.rt_script.proofs.draft.Draft.pick.Goals as goal
-
-pub invariant_of-self-2 : goal.invariant_of-self-2
-invariant_of-self-2 c = record {
-  each = λ name. rw c.in_ok-push_pick.ensures.ok (c.self.invariant.each name ∙ sym (named-with_pick c.self.inside.script c.in_ok-t.t name));
-  empty = λ e. absurd cc;
-}

@@ -1,5 +1,0 @@
-use Rattle.rt_script.proofs.Naming.{named_task_within}
-use Rattle.rt_script.proofs.draft.Draft.task_named.Goals as goal
-
-pub returns-in-Some-Task-clause-within : goal.returns-in-Some-Task-clause-within
-returns-in-Some-Task-clause-within c = named_task_within c.args.self.now.script c.args.name.now c.in-Some-Task.t cc

@@ -1,6 +1,6 @@
 -- What a thread holds, and how many locks of a spinning kind that is of, where one hold changes.
-use Rattle.std.proofs.Common.{◌≡◌, ℕ, zero, suc, ◌+◌, ◌<◌, ◌≤◌, Bool, true, false, cond, List, [], ◌∷◌, ◌&&◌, ◌||◌, length, get_or, replicate, refl, sym, ap, subst, ◌∙◌, arith, All}
-use Rattle.std.specs.Prelude.{slice_set, nat_lt}
+use Rattle.std.proofs.Common.{◌≡◌, ℕ, zero, suc, ◌+◌, ◌<◌, ◌≤◌, Bool, true, false, cond, List, [], ◌∷◌, ◌&&◌, ◌||◌, length, get_or, replicate, refl, sym, ap, subst, ◌∙◌, arith, Option, option_map}
+use Rattle.std.specs.Prelude.{slice_set, slice_get, nat_lt}
 use Rattle.std.proofs.lemmas.Bool.{cond_both}
 use Rattle.std.proofs.lemmas.List.{length-replicate}
 use Rattle.std.proofs.lemmas.List.Elements.{All-replicate}
@@ -12,7 +12,7 @@ use Rattle.rt_base.specs.declared.id.LockId.{LockId}
 use Rattle.rt_base.specs.declared.limits.TheConstants.{MAX_LOCKS, MAX_TASKS}
 use Rattle.rt_model.specs.declared.hold.Hold.{Hold}
 use Rattle.rt_model.specs.laws.Shape.{IsThread}
-use Rattle.rt_model.specs.Parts.{ThreadPart, hold_of}
+use Rattle.rt_model.specs.Parts.{ThreadPart, hold_of, made_on}
 use Rattle.rt_model.specs.events.Own.{spinning_hold, spinning_holds}
 use Rattle.rt_parts.specs.Thread.{IsPrivate}
 use Rattle.rt_parts.proofs.SharedSteps.{read-index}
@@ -69,14 +69,15 @@ spinning-none (kind ∷ kinds) = omega (arith, none_of (spins kind), spinning-no
 
 -- a thread that has made no call, and holds nothing
 pub fresh-fits : (kinds : List Kind) (calls : List Call) (ks : List Kind) (cs : List Call) (holds : List Hold) → ks ≡ kinds → cs ≡ calls → holds ≡ replicate (length kinds) (record { owns = false; reads = 0 })
-    → (cpu : Cpu) → length kinds ≤ MAX_LOCKS → IsThread calls 0 cpu MAX_TASKS (length kinds) → IsPrivate ks cs 0 holds 0 cpu
-fresh-fits kinds calls ks cs holds is_kinds is_calls is_holds cpu few_locks thread =
-    let fresh : IsPrivate kinds calls 0 (replicate (length kinds) (record { owns = false; reads = 0 })) 0 cpu = record {
+    → (cpu : Cpu) → length kinds ≤ MAX_LOCKS → IsThread calls 0 cpu MAX_TASKS (length kinds) → (at : Option Call) → at ≡ option_map (made_on cpu) (slice_get calls 0) → IsPrivate ks cs 0 holds 0 cpu at
+fresh-fits kinds calls ks cs holds is_kinds is_calls is_holds cpu few_locks thread at is_at =
+    let fresh : IsPrivate kinds calls 0 (replicate (length kinds) (record { owns = false; reads = 0 })) 0 cpu at = record {
       thread = thread;
       few = few_locks;
       holds = length-replicate (length kinds) _;
       spinning = sym (spinning-none kinds);
       reads = All-replicate (λ (hold : Hold). hold.reads ≤ 0) (length kinds) _ (omega arith);
+      call = is_at;
     } in
-    subst (λ (xs : List Kind). IsPrivate xs cs 0 holds 0 cpu) (sym is_kinds)
-    (subst (λ (xs : List Call). IsPrivate kinds xs 0 holds 0 cpu) (sym is_calls) (subst (λ (xs : List Hold). IsPrivate kinds calls 0 xs 0 cpu) (sym is_holds) fresh))
+    subst (λ (xs : List Kind). IsPrivate xs cs 0 holds 0 cpu at) (sym is_kinds)
+    (subst (λ (xs : List Call). IsPrivate kinds xs 0 holds 0 cpu at) (sym is_calls) (subst (λ (xs : List Hold). IsPrivate kinds calls 0 xs 0 cpu at) (sym is_holds) fresh))

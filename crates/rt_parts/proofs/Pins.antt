@@ -1,5 +1,5 @@
 -- A migration count is small.
-use Rattle.std.proofs.Common.{◌≡◌, ℕ, ◌+◌, ◌<◌, ◌≤◌, ◌^◌, Bool, true, false, List, length, arith, Option, Some, None, All}
+use Rattle.std.proofs.Common.{ℕ, ◌+◌, ◌<◌, ◌≤◌, ◌^◌, Bool, true, false, List, arith, Option, Some, None}
 use Rattle.std.proofs.lemmas.List.Elements.{All-weaker}
 use Rattle.rt_base.specs.declared.call.Call.{Call}
 use Rattle.rt_base.specs.declared.call.Call.TheVariants as calls
@@ -35,9 +35,9 @@ added-most (calls.Local l) kind true None = omega arith
 added-most (calls.Local l) kind false None = omega arith
 added-most _ kind first reply = omega arith
 
-pub pins-room : (kinds : List Kind) (calls : List Call) (answered : ℕ) (held : List Hold) (count : ℕ) (cpu : Cpu) → IsPrivate kinds calls answered held count cpu → (migration : ℕ) → migration ≤ count_holds pins kinds held + 1
+pub pins-room : (kinds : List Kind) (calls : List Call) (answered : ℕ) (held : List Hold) (count : ℕ) (cpu : Cpu) (at : Option Call) → IsPrivate kinds calls answered held count cpu at → (migration : ℕ) → migration ≤ count_holds pins kinds held + 1
     → (call : Call) (kind : Option Kind) (first : Bool) (reply : Option Reply) → migration + pins_added call kind first reply < 2 ^ 32
-pins-room kinds calls answered held count cpu private migration counted call kind first reply =
+pins-room kinds calls answered held count cpu at private migration counted call kind first reply =
     let answers : answered ≤ MAX_CALLS = omega (arith, private.thread.within, private.thread.few) in
     let reads = All-weaker (λ (hold : Hold). hold.reads ≤ answered) (λ (hold : Hold). hold.reads ≤ MAX_CALLS) (λ hold few. omega (arith, few, answers)) held private.reads in
     omega (arith, holds-most kinds held reads, added-most call kind first reply, counted, private.few)

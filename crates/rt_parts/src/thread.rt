@@ -1,5 +1,5 @@
-ghost use Rattle.std.specs.Prelude.{◌≡◌, ◌≤◌, ◌<◌, length, IfOk, IfSome};
-ghost use Rattle.rt_model.specs.Parts.{call_of, kind_of};
+ghost use Rattle.std.specs.Prelude.{◌≡◌, ◌≤◌, ◌<◌, length, slice_get, option_map, IfOk, IfSome};
+ghost use Rattle.rt_model.specs.Parts.{call_of, kind_of, made_on};
 ghost use Rattle.rt_model.specs.State.{fresh_thread};
 ghost use Rattle.rt_model.specs.CallKinds.{IsServed};
 ghost use Rattle.rt_model.specs.laws.Shape.{IsThread};
@@ -11,6 +11,7 @@ ghost use Rattle.rt_model.specs.events.Readers.{phase_after_rin};
 ghost use Rattle.rt_model.specs.Run.{is_at_end};
 ghost use Rattle.rt_model.specs.Order.{in_walk};
 ghost use Rattle.rt_parts.specs.Steps.{with_phase};
+ghost use Rattle.rt_parts.specs.Thread.{HasLockOn};
 
 mod answers;
 mod walk;
@@ -30,12 +31,13 @@ const NOTHING: Hold = Hold {
 
 /// A thread's private part: what it knows of the script, which are the kinds of all locks and its own
 /// calls, how far it has come, what it holds, with how many locks of a spinning kind that is of, its migration count, and
-/// its processor.
+/// its processor. The call that it is at is kept as it makes it there, so that no event works it out anew.
 #[derive(Drop)]
 pub struct Thread {
     kinds: Vec<Kind>,
     calls: Vec<Call>,
     answered: u32,
+    call: Option<Call>,
     phase: Phase,
     holds: Vec<Hold>,
     spinning: u32,
@@ -54,7 +56,7 @@ impl Model for Thread {
     ghost use Rattle.std.specs.Prelude.{◌≤◌, length};
     ghost use Rattle.rt_parts.specs.Thread.{IsPrivate};
 
-    ghost invariant = { λ t. IsPrivate t.kinds.items t.calls.items t.answered t.holds.items t.spinning t.cpu };
+    ghost invariant = { λ t. IsPrivate t.kinds.items t.calls.items t.answered t.holds.items t.spinning t.cpu t.call };
 }
 
 impl Thread {
@@ -69,6 +71,7 @@ impl Thread {
             kinds: Vec::from_slice(alloc, kinds)?,
             calls: Vec::from_slice(alloc, calls)?,
             answered: 0,
+            call: call_at(calls, 0, cpu),
             phase: Phase::Start,
             holds,
             spinning: 0,
@@ -82,8 +85,7 @@ impl Thread {
         ensures call { result ≡ call_of self.now }
         ensures served { IfSome result (IsServed MAX_TASKS (length self.now.kinds)) }
     {
-        let call = self.calls.get(self.answered as usize)?;
-        Some(made_on(self.cpu, *call))
+        self.call
     }
 
     /// Whether it is at the end of its calls.
@@ -234,6 +236,15 @@ impl Thread {
     {
         self.phase = phase;
     }
+}
+
+// The call at this place, as it is made on this processor, and `None` at the end of the calls.
+fn call_at(calls: &[Call], at: u32, cpu: Cpu) -> Option<Call>
+    requires { IfSome (slice_get calls.now at) (HasLockOn cpu) }
+    ensures { result ≡ option_map (made_on cpu) (slice_get calls.now at) }
+{
+    let call = calls.get(at as usize)?;
+    Some(made_on(cpu, *call))
 }
 
 // The state in which a call sleeps in an ordinary way.

@@ -8,7 +8,7 @@ ghost use Rattle.rt_model.specs.steps.Thread.{answered_with, holds_after, migrat
 ghost use Rattle.rt_parts.specs.Steps.{with_migration};
 ghost use Rattle.rt_parts.specs.Thread.{CanReadMore, HasRead, HasPins, IsCounted, CanAnswer};
 
-use crate::thread::Thread;
+use crate::thread::{Thread, call_at};
 use rt_base::limits::MAX_TASKS;
 use rt_base::{Call, Kind, LockId, Reply};
 use rt_local::migration_after;
@@ -37,6 +37,7 @@ impl Thread {
         self.count_event(&call, Some(reply));
         self.go_where_moved(&call, reply);
         self.answered += 1;
+        self.call = call_at(self.calls.as_slice(), self.answered, self.cpu);
         self.phase = Phase::Start;
         self.note_answer(&call, reply);
     }

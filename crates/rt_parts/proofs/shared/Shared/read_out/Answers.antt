@@ -1,5 +1,4 @@
-use Rattle.std.proofs.Common.{◌∙◌, ap, subst, sym, length, ◌<◌, ℕ}
-use Rattle.rt_model.specs.declared.reader_cell.ReaderCell.{ReaderCell}
+use Rattle.std.proofs.Common.{◌∙◌, ap, sym}
 use Rattle.rt_model.specs.steps.Readers.{without_reader, wakes_writer}
 use Rattle.rt_parts.proofs.SharedSteps.{reader-set, reader-read}
 use Rattle.rt_parts.proofs.shared.Shared.read_out.Goals as goal

@@ -1,4 +1,4 @@
-use Rattle.std.proofs.Common.{◌≡◌, ◌∙◌, true, cond, ap, sym, Option, Some, None}
+use Rattle.std.proofs.Common.{◌≡◌, ◌∙◌, true, cond, ap, sym, Some, None}
 use Rattle.rt_model.specs.declared.reader_cell.ReaderCell.{ReaderCell}
 use Rattle.rt_model.specs.steps.Readers.{can_write, with_writer}
 use Rattle.rt_parts.proofs.SharedSteps.{reader-at, reader-set}

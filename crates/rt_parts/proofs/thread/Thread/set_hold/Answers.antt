@@ -1,4 +1,4 @@
-use Rattle.std.proofs.Common.{◌≡◌, ◌∙◌, ◌<◌, ◌≤◌, ◌+◌, ◌-◌, ℕ, length, length-set, sym, subst, arith}
+use Rattle.std.proofs.Common.{◌≡◌, ◌∙◌, ◌<◌, ◌≤◌, ◌+◌, ◌-◌, length, length-set, sym, subst, arith}
 use Rattle.std.specs.Prelude.{slice_set}
 use Rattle.std.proofs.lemmas.List.Elements.{All-set}
 use Rattle.rt_model.specs.declared.hold.Hold.{Hold}
@@ -41,4 +41,5 @@ invariant_of-self c =
       holds = length-set c.self.inside.holds.items c.args.l.0 _ ∙ c.self.invariant.holds;
       spinning = recounted (goal.at.invariant_of-self c).After-spinning_hold-2;
       reads = All-set (λ (hold : Hold). hold.reads ≤ c.self.inside.answered) c.self.inside.holds.items c.args.l.0 c.args.hold reads c.self.invariant.reads;
+      call = c.self.invariant.call;
     }

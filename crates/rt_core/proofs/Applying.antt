@@ -2,21 +2,19 @@
 use Rattle.std.proofs.Common.{◌≡◌, ◌∙◌, ℕ, suc, ◌+◌, ◌<◌, ◌^◌, List, length, get_or, refl, sym, ap, subst, arith, Option, Some, None, IfSome, IsSome}
 use Rattle.std.specs.Prelude.{option_map, slice_set}
 use Rattle.std.proofs.Math.ListN.{length-set}
-use Rattle.rt_base.specs.declared.call.Call.{Call}
 use Rattle.rt_base.specs.declared.id.LockId.{LockId}
 use Rattle.rt_base.specs.declared.id.TaskId.{TaskId}
-use Rattle.rt_base.specs.declared.reply.Reply.{Reply}
 use Rattle.rt_model.specs.declared.event.Event.{Event}
 use Rattle.rt_model.specs.declared.phase.Phase.{Phase}
 use Rattle.rt_model.specs.declared.phase.Phase.TheVariants as phases
 use Rattle.rt_model.specs.declared.phase.Route.TheVariants.{Full, Short}
 use Rattle.rt_model.specs.declared.row.Row.{Row}
-use Rattle.rt_model.specs.Parts.{ThreadPart, call_of}
+use Rattle.rt_model.specs.Parts.{ThreadPart}
 use Rattle.rt_model.specs.Rows.{row_of}
 use Rattle.rt_model.specs.State.{State, Shared, shared, lock_at, readers_at, task_at, owner_part, reader_part, thread_part}
 use Rattle.rt_model.specs.Path.{first_lock, first_owner}
 use Rattle.rt_model.specs.events.Walk.{cycle_event}
-use Rattle.rt_model.specs.NextEvent.{event_of, next_event}
+use Rattle.rt_model.specs.NextEvent.{next_event}
 use Rattle.rt_model.specs.Rules.{touched}
 use Rattle.rt_model.specs.steps.Readers.{CanStep}
 use Rattle.rt_model.specs.StateAfter.{shared_after, thread_after, state_after}

@@ -8,7 +8,7 @@ ghost use Rattle.rt_model.specs.State.{State, start, shared, object, owner_part,
 ghost use Rattle.rt_model.specs.NextEvent.{next_event};
 ghost use Rattle.rt_model.specs.StateAfter.{state_after};
 ghost use Rattle.rt_model.specs.Footprint.{touches};
-ghost use Rattle.rt_model.specs.Run.{is_done, is_stuck, is_enabled, lowest};
+ghost use Rattle.rt_model.specs.Run.{is_done, is_stuck, is_enabled, lowest, ended_of};
 ghost use Rattle.rt_model.specs.Order.{in_walk, is_walking};
 ghost use Rattle.rt_model.specs.laws.Shape.{IsOf, IsWithin, SameSize};
 ghost use Rattle.rt_model.specs.laws.Lawful.{IsLawful};
@@ -26,7 +26,7 @@ use crate::note::{Note, blocked_note, readers_note};
 use crate::report::{write_lock_line, write_task_line};
 use crate::spinning::waits_spinning;
 use rt_base::limits::{LINE_LIMIT, MAX_CALLS, MAX_TASKS};
-use rt_base::{Call, LockId, NoMemory, Prio, TaskId, TaskState};
+use rt_base::{Call, Ended, LockId, NoMemory, Prio, TaskId, TaskState};
 use rt_choice::{confirmed_event, event_of, next_of};
 use rt_locks::LockCell;
 use rt_model::{Event, Phase, ReaderCell, Row};
@@ -175,6 +175,19 @@ impl Core {
         ensures { result ≡ is_stuck self.now.state }
     {
         self.lowest_enabled().is_none() && !self.done()
+    }
+
+    /// How a run has ended that leaves this state.
+    pub fn ended(&self) -> Ended
+        ensures { result ≡ ended_of self.now.state }
+    {
+        if self.done() {
+            Ended::Done
+        } else if self.stuck() {
+            Ended::Stuck
+        } else {
+            Ended::Limit
+        }
     }
 
     /// Whether a task has a next event.

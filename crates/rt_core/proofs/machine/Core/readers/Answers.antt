@@ -1,4 +1,4 @@
-use Rattle.std.proofs.Common.{◌≤◌, arith}
+use Rattle.std.proofs.Common.{arith}
 use Rattle.rt_core.proofs.machine.Core.readers.Goals as goal
 
 pub returns-clause-few : goal.returns-clause-few

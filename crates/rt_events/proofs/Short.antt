@@ -1,6 +1,6 @@
 -- The line of a well formed entry is short.
 use Rattle.std.proofs.Common.{◌≡◌, ℕ, ◌+◌, ◌*◌, ◌<◌, ◌≤◌, Bool, true, false, cond, List, [], ◌∷◌, ◌++◌, map, length, sym, subst, ap, ◌∙◌, Option, Some, None, All, IfSome, arith, length-append}
-use Rattle.std.specs.Prelude.{codes, decimal, nat_eq}
+use Rattle.std.specs.Prelude.{codes, decimal, flat_map, nat_eq}
 use Rattle.std.proofs.lemmas.Fmt.{length-decimal-le}
 use Rattle.std.proofs.lemmas.Grind.{flat_map-append}
 use Rattle.std.proofs.lemmas.List.Elements.{All-head, All-tail}
@@ -21,7 +21,7 @@ use Rattle.rt_model.proofs.Lists.{All-default}
 use Rattle.rt_model.specs.steps.Task.{state_numbered}
 use Rattle.rt_events.specs.declared.entry.Entry.{Entry}
 use Rattle.rt_events.specs.Words.{spaced, wake_word, kind_word, state_word, cell_word, task_word, lock_word, task_or_dash}
-use Rattle.rt_events.specs.Line.{lock_words, task_words, wakes_words, reader_words, link_word, operands, boost_words, reply_words, line_of}
+use Rattle.rt_events.specs.Line.{lock_words, task_words, wakes_words, reader_words, link_words, operands, boost_word, boost_words, reply_words, told_words, line_of}
 use Rattle.rt_events.specs.WellFormed.{IsTaskIn, IsLockIn, IsLinkIn, HasValue, HasPath, IsWellFormed}
 use Rattle.rt_events.proofs.Named.{named}
 
@@ -98,14 +98,21 @@ each_short word Is (x ∷ xs) short all =
       each_short word Is xs short (All-tail Is x xs all),
     )
 
-link_short : (script : Script) (link : ℕ × ℕ) → IsScript script → IsLinkIn script link → length (link_word script link) ≤ 37
+link_short : (script : Script) (link : ℕ × ℕ) → IsScript script → IsLinkIn script link → length (spaced (link_words script link)) ≤ 38
 link_short script link is there =
     let t : TaskId = record { 0 = link.0 } in
     let l : LockId = record { 0 = link.1 } in
-    omega (arith, task_short script t is there.0, lock_short script l is there.1, length-append (task_word script t) (32 ∷ lock_word script l))
+    omega (arith, task_short script t is there.0, lock_short script l is there.1, two_words (task_word script t) (lock_word script l))
 
-path_short : (script : Script) (path : List (ℕ × ℕ)) → IsScript script → All (IsLinkIn script) path → length (spaced (map (link_word script) path)) ≤ 38 * length path
-path_short script path is all = each_short (link_word script) (IsLinkIn script) path (λ link. link_short script link is) all
+path_short : (script : Script) (path : List (ℕ × ℕ)) → IsScript script → All (IsLinkIn script) path → length (spaced (flat_map (link_words script) path)) ≤ 38 * length path
+path_short script [] is all = omega arith
+path_short script (link ∷ links) is all =
+    omega (
+      arith,
+      link_short script link is (All-head (IsLinkIn script) link links all),
+      spaced_both (link_words script link) (flat_map (link_words script) links),
+      path_short script links is (All-tail (IsLinkIn script) link links all),
+    )
 
 -- ---- what each kind tells, with at most 64 links
 
@@ -144,7 +151,7 @@ record ArePartsShort (script : Script) (n : Entry) : Type 0 where
   wakes : length (spaced (wakes_words script n.woken)) ≤ 23
   reader : length (spaced (reader_words n.value)) ≤ 7
   value : length (spaced (decimal n.value ∷ [])) ≤ 4
-  path : length (spaced (map (link_word script) n.path)) ≤ 38 * 64
+  path : length (spaced (flat_map (link_words script) n.path)) ≤ 38 * 64
 
 parts_short : (script : Script) (n : Entry) → IsScript script → IsWellFormed script n → ArePartsShort script n
 parts_short script n valid is =
@@ -196,7 +203,7 @@ boost_short script (Some b) valid is =
       arith,
       task_short script b.0 valid is.0,
       small b.1 (omega (arith, is.1)),
-      spaced_one (task_word script b.0 ++ 61 ∷ decimal b.1),
+      spaced_one (boost_word script b),
       length-append (task_word script b.0) (61 ∷ decimal b.1),
     )
 
@@ -204,9 +211,6 @@ reply_short : (reply : Option Reply) → length (spaced (reply_words reply)) ≤
 reply_short None = omega arith
 reply_short (Some replies.Got) = omega arith
 reply_short (Some _) = omega arith
-
-head_short : (who did : List ℕ) → length who ≤ 16 → length did ≤ 8 → length (spaced (who ∷ did ∷ [])) ≤ 26
-head_short who did w d = omega (arith, w, d, two_words who did)
 
 pub line_length : (a b c d e : List ℕ) → length (a ++ b ++ c ++ d ++ e ++ 10 ∷ []) ≡ length a + length b + length c + length d + length e + 1
 line_length a b c d e =
@@ -219,16 +223,20 @@ line_length a b c d e =
       length-append (a ++ b ++ c ++ d ++ e) (10 ∷ []),
     )
 
-joined : (number head told boost answer : List ℕ) → length number ≤ 20 → length head ≤ 26 → length told ≤ 38 * 64 → length boost ≤ 21 → length answer ≤ 15
-    → length (number ++ head ++ told ++ boost ++ answer ++ 10 ∷ []) < 4096
-joined number head told boost answer a b c d e = omega (arith, a, b, c, d, e, line_length number head told boost answer)
+number_short : (number words : List ℕ) (a b : ℕ) → length number ≤ a → length words ≤ b → a + b + 1 < 4096 → length (number ++ words ++ 10 ∷ []) < 4096
+number_short number words a b n w fits = omega (arith, n, w, fits, length-append number words, length-append (number ++ words) (10 ∷ []))
+
+head_short : (who did : List ℕ) (others : List (List ℕ)) (a : ℕ) → length who ≤ 16 → length did ≤ 8 → length (spaced others) ≤ a → length (spaced (who ∷ did ∷ others)) ≤ 26 + a
+head_short who did others a w d o = omega (arith, w, d, o, spaced_cons who (did ∷ others), spaced_cons did others)
 
 -- a well formed entry's line is shorter than 4,096 bytes
 pub line_short : (script : Script) (n : Entry) → IsScript script → IsWellFormed script n → length (line_of script n) < 4096
 line_short script n valid is =
-    joined (decimal n.number) (spaced (task_word script n.task ∷ kind_word n.kind n.value ∷ [])) (spaced (operands script n.kind n)) (spaced (boost_words script n.boost)) (spaced (reply_words n.reply))
-    (length-decimal-le 20 n.number (omega arith) (omega (arith, is.number)) is.number)
-    (head_short (task_word script n.task) (kind_word n.kind n.value) (task_short script n.task valid is.task) (kind_short n.kind n.value))
-    (operands_short n.kind script n (parts_short script n valid is))
-    (boost_short script n.boost valid is.boost)
-    (reply_short n.reply)
+    let boost : List (List ℕ) = boost_words script n.boost in
+    let reply : List (List ℕ) = reply_words n.reply in
+    let tail : length (spaced (boost ++ reply)) ≤ 36 = both_short boost reply 21 15 36 (boost_short script n.boost valid is.boost) (reply_short n.reply) (omega arith) in
+    let told : length (spaced (operands script n.kind n ++ (boost ++ reply))) ≤ 2468 =
+    both_short (operands script n.kind n) (boost ++ reply) 2432 36 2468 (operands_short n.kind script n (parts_short script n valid is)) tail (omega arith) in
+    let words : length (spaced (told_words script n)) ≤ 26 + 2468 =
+    head_short (task_word script n.task) (kind_word n.kind n.value) (operands script n.kind n ++ (boost ++ reply)) 2468 (task_short script n.task valid is.task) (kind_short n.kind n.value) told in
+    number_short (decimal n.number) (spaced (told_words script n)) 20 (26 + 2468) (length-decimal-le 20 n.number (omega arith) (omega (arith, is.number)) is.number) words (omega arith)

@@ -4,5 +4,6 @@ pub mod WellFormed
 pub mod Line
 pub mod Journal
 pub mod Touched
+pub mod reading
 pub use Rattle.rt_base.specs.Script
 pub use Rattle.rt_model.specs.Footprint

@@ -8,6 +8,9 @@ mod footprint;
 mod journal;
 mod line;
 mod operands;
+mod reading;
+#[cfg(test)]
+mod reading_tests;
 mod state_numbers;
 #[cfg(test)]
 mod tests;
@@ -21,6 +24,7 @@ pub use first_link::{first_lock, first_owner};
 pub use footprint::{disjoint, touches};
 pub use journal::{write_end_line, write_header};
 pub use line::write_line;
+pub use reading::{LineFault, read_line};
 pub use rt_model::{Event, EventKind, Obj};
 pub use state_numbers::{state_number, state_numbered};
 pub use well_formed::is_well_formed;

@@ -1,8 +1,8 @@
 // What the line of each kind tells besides who did what.
-ghost use Rattle.std.specs.Prelude.{◌≡◌, ◌+◌, ◌<◌, ◌≤◌, ◌∷◌, ◌++◌, length, map, vec_len, All, IfSome};
+ghost use Rattle.std.specs.Prelude.{◌≡◌, ◌+◌, ◌<◌, ◌≤◌, ◌∷◌, ◌++◌, length, flat_map, vec_len, All, IfSome};
 ghost use Rattle.std.specs.Vec.{vec_capacity};
 ghost use Rattle.rt_events.specs.Words.{spaced};
-ghost use Rattle.rt_events.specs.Line.{lock_words, task_words, wakes_words, reader_words, link_word, operands};
+ghost use Rattle.rt_events.specs.Line.{lock_words, task_words, wakes_words, reader_words, link_words, operands};
 ghost use Rattle.rt_events.specs.WellFormed.{IsTaskIn, IsLockIn, IsLinkIn, IsNamedIn};
 
 use crate::appending::{push_number, push_word};
@@ -114,7 +114,7 @@ fn push_reader(value: u8, out: &mut Vec<u8>)
 fn push_path(script: &Script, path: &Path, out: &mut Vec<u8>)
     requires links { All (IsLinkIn script.now) path.now }
     requires room { vec_len out.old + OPERANDS_ROOM ≤ vec_capacity out.old }
-    ensures text { out.new.items ≡ out.old.items ++ spaced (map (link_word script.now) path.now) }
+    ensures text { out.new.items ≡ out.old.items ++ spaced (flat_map (link_words script.now) path.now) }
     ensures grows { vec_len out.new ≤ vec_len out.old + OPERANDS_ROOM }
     ensures capacity { vec_capacity out.old ≤ vec_capacity out.new }
 {
@@ -129,7 +129,7 @@ fn push_link(script: &Script, t: TaskId, l: LockId, out: &mut Vec<u8>)
     requires task { IsTaskIn script.now t }
     requires lock { IsLockIn script.now l }
     requires room { vec_len out.old + LINK_ROOM ≤ vec_capacity out.old }
-    ensures text { out.new.items ≡ out.old.items ++ 32 ∷ link_word script.now (t.0, l.0) }
+    ensures text { out.new.items ≡ out.old.items ++ spaced (link_words script.now (t.0, l.0)) }
     ensures grows { vec_len out.new ≤ vec_len out.old + LINK_ROOM }
     ensures capacity { vec_capacity out.old ≤ vec_capacity out.new }
 {

@@ -1,0 +1,5 @@
+pub mod Spelling
+pub mod Operands
+pub mod Tail
+pub mod EntryIn
+pub mod WordsLeft

@@ -8,3 +8,4 @@ pub mod OptionForms
 pub mod Cli
 pub mod Turns
 pub mod MessageWritten
+pub mod ToGo

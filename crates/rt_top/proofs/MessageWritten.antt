@@ -1,14 +1,18 @@
 -- What is told where nothing is played.
-use Rattle.std.proofs.Common.{◌≡◌, ℕ, inl, inr, List, [], Option, Some, None, Result, Ok, Err, false, refl, subst}
+use Rattle.std.proofs.Common.{◌≡◌, ◌∙◌, ℕ, inl, inr, List, [], ◌++◌, append_assoc, sym, Option, Some, None, Result, Ok, Err, false, refl}
 use Rattle.std.specs.Prelude.{is_some}
 use Rattle.rt_base.specs.declared.fault.Failed.{Failed}
 use Rattle.rt_base.specs.Outside.{Writes}
 use Rattle.rt_script.specs.Grammar.{FaultAt, script_of}
-use Rattle.rt_top.specs.declared.options.Options.{Options}
+use Rattle.rt_top.specs.declared.command.Command.{Command}
 use Rattle.rt_top.specs.declared.status.Status.{Status}
 use Rattle.rt_top.specs.declared.status.Status.TheVariants as statuses
 use Rattle.rt_top.specs.Message.{usage_line}
-use Rattle.rt_top.specs.Answer.{Answers, AnswersInput, Input, IsTold, Output, AnswersBadScript}
+use Rattle.rt_top.specs.Answer.{Answers, AnswersInput, Input, IsTold, Output, AnswersBadScript, script_text}
+
+-- five parts, grouped from the left
+pub grouped : (a b c d e : List ℕ) → a ++ (b ++ (c ++ (d ++ e))) ≡ a ++ b ++ c ++ d ++ e
+grouped a b c d e = sym (append_assoc a b (c ++ (d ++ e))) ∙ (sym (append_assoc (a ++ b) c (d ++ e)) ∙ sym (append_assoc (a ++ b ++ c) d e))
 
 -- a line that was written, or some prefix of it
 pub told : {T : Type 0} (result : Result T Failed) (line : List ℕ) (held_before held_after : Option (List ℕ)) (faults_before faults_after : ℕ)
@@ -17,19 +21,20 @@ pub told : {T : Type 0} (result : Result T Failed) (line : List ℕ) (held_befor
 told (Ok x) line held_before held_after faults_before faults_after writes = inl (writes.whole, writes.no_fault)
 told (Err e) line held_before held_after faults_before faults_after writes = inr (writes.cause, writes.part)
 
--- an input that is refused for its fault
-pub refused : (options : Options) (status : Status) (input : List ℕ) (output : Output) (fault : FaultAt) → script_of input ≡ Err fault → AnswersBadScript status fault output → AnswersInput options status input output
-refused options statuses.BadScript input output fault is told = (fault, is, told)
-refused options statuses.NoMemory input output fault is told = tt
-refused options statuses.Done input output fault is told = absurd told
-refused options statuses.Usage input output fault is told = absurd told
-refused options statuses.Stuck input output fault is told = absurd told
-refused options statuses.Limit input output fault is told = absurd told
-refused options statuses.ReadFault input output fault is told = absurd told
-refused options statuses.WriteFault input output fault is told = absurd told
-refused options statuses.TooLong input output fault is told = absurd told
+-- an input whose script is refused for its fault
+pub refused : (command : Command) (status : Status) (input : List ℕ) (output : Output) (fault : FaultAt) → script_of (script_text command input) ≡ Err fault → AnswersBadScript status fault output → AnswersInput command status input output
+refused command statuses.BadScript input output fault is told = (fault, is, told)
+refused command statuses.NoMemory input output fault is told = tt
+refused command statuses.Done input output fault is told = absurd told
+refused command statuses.Usage input output fault is told = absurd told
+refused command statuses.Stuck input output fault is told = absurd told
+refused command statuses.Limit input output fault is told = absurd told
+refused command statuses.ReadFault input output fault is told = absurd told
+refused command statuses.WriteFault input output fault is told = absurd told
+refused command statuses.TooLong input output fault is told = absurd told
+refused command statuses.Illegal input output fault is told = absurd told
 
 -- words that aren't taken
-pub unaccepted : (o : Option Options) (input : Input) (output : Output) → is_some o ≡ false → IsTold usage_line output → Answers o statuses.Usage [] input output
+pub unaccepted : (o : Option Command) (input : Input) (output : Output) → is_some o ≡ false → IsTold usage_line output → Answers o statuses.Usage [] input output
 unaccepted None input output none told = (refl, told)
-unaccepted (Some options) input output none told = cc none
+unaccepted (Some command) input output none told = cc none

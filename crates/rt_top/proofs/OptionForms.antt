@@ -1,6 +1,6 @@
 -- What words ask for, by the forms that they can have.
-use Rattle.std.proofs.Common.{◌≡◌, ℕ, ◌<◌, ◌≤◌, Bool, true, false, ◌&&◌, not, List, [], ◌∷◌, length, get_or, Option, Some, None, Result, Ok, Err, refl, sym, ap, subst, ◌∙◌, arith, codes}
-use Rattle.std.specs.Prelude.{bytes_eq, is_some}
+use Rattle.std.proofs.Common.{◌≡◌, ℕ, ◌<◌, ◌≤◌, Bool, true, false, ◌&&◌, not, List, [], ◌∷◌, length, get_or, Option, Some, None, cond, Result, Ok, Err, refl, sym, ap, subst, ◌∙◌, arith, codes}
+use Rattle.std.specs.Prelude.{bytes_eq, is_some, option_map}
 use Rattle.std.specs.Str.Parse.{ParsesUnsigned}
 use Rattle.std.specs.Result.{result_ok}
 use Rattle.clap.specs.Words.{ReadsOne}
@@ -8,7 +8,9 @@ use Rattle.std.proofs.lemmas.Slice.Eq.{bytes_eq-Decides}
 use Rattle.rt_script.specs.Words.{◌>>=◌, only_if, number_upto}
 use Rattle.rt_top.specs.declared.options.Options.{Options}
 use Rattle.rt_top.specs.declared.options.TheConstants.{MAX_TURNS}
-use Rattle.rt_top.specs.Words.{IsTurns, options_of, no_options, options_after, with_option}
+use Rattle.rt_top.specs.declared.command.Command.{Command}
+use Rattle.rt_top.specs.declared.command.Command.TheVariants.{Replay, Check}
+use Rattle.rt_top.specs.Words.{IsSaid, IsTurns, alone, command_of, no_options, options_after, with_option}
 use Rattle.rt_top.proofs.Spelled.{spells, some_of, first_of, no_zero, number_upto-parsed}
 
 if_passed : {A : Type 0} (b : Bool) (o : Option A) (a : A) → only_if b o ≡ Some a → (b ≡ true) × (o ≡ Some a)
@@ -81,29 +83,59 @@ two_words (v ∷ w ∷ z ∷ xs) x y some few a b = absurd (omega arith)
 
 -- ---- the forms
 
--- `replay` alone, or with its option
-pub data Form (words : List (List ℕ)) (options : Options) : Type 0 where
-  plain : words ≡ codes "replay" ∷ [] → options ≡ no_options → Form words options
-  with_turns : (word : List ℕ) (n : ℕ) → words ≡ codes "replay" ∷ codes "--turns" ∷ word ∷ [] → number_upto MAX_TURNS word ≡ Some n → options ≡ record { turns = Some n } → Form words options
+-- `replay` alone, or with its option, or `check`
+pub data Form (words : List (List ℕ)) (command : Command) : Type 0 where
+  plain : words ≡ codes "replay" ∷ [] → command ≡ Replay no_options → Form words command
+  with_turns : (word : List ℕ) (n : ℕ) → words ≡ codes "replay" ∷ codes "--turns" ∷ word ∷ [] → number_upto MAX_TURNS word ≡ Some n → command ≡ Replay (record { turns = Some n }) → Form words command
+  check : words ≡ codes "check" ∷ [] → command ≡ Check → Form words command
 
-pub forms : (words : List (List ℕ)) (options : Options) → options_of words ≡ Some options → Form words options
-forms [] options e = cc e
-forms (command ∷ words) options e =
-    let p = if_passed (bytes_eq command (codes "replay")) (options_after no_options words) options e in
-    let named : command ≡ codes "replay" = (bytes_eq-Decides command (codes "replay")).0 p.0 in
-    after words p.1 named
+-- what follows `replay`
+replay_form : (rest : List (List ℕ)) (options : Options) → options_after no_options rest ≡ Some options → Form (codes "replay" ∷ rest) (Replay options)
+replay_form [] options is = plain refl (ap Replay (sym (cc is)))
+replay_form (name ∷ []) options is = cc is
+replay_form (name ∷ word ∷ more) options is = given (with_option no_options name word) refl is
   where
-    after : (rest : List (List ℕ)) → options_after no_options rest ≡ Some options → command ≡ codes "replay" → Form (command ∷ rest) options
-    after [] is named = plain (ap (λ word. word ∷ []) named) (cc is)
-    after (name ∷ []) is named = cc is
-    after (name ∷ word ∷ more) is named = given (with_option no_options name word) refl is
-      where
-        given : (o : Option Options) → with_option no_options name word ≡ o → (o >>= λ given. options_after given more) ≡ Some options → Form (command ∷ name ∷ word ∷ more) options
-        given None one all = cc all
-        given (Some so_far) one all =
-            let t = has_turns name word so_far one in
-            let r = no_more t.number more options (subst (λ (o : Options). options_after o more ≡ Some options) t.given all) in
-            with_turns word t.number (λ i. named i ∷ t.named i ∷ word ∷ r.0 i) t.spelled r.1
+    given : (o : Option Options) → with_option no_options name word ≡ o → (o >>= λ given. options_after given more) ≡ Some options → Form (codes "replay" ∷ name ∷ word ∷ more) (Replay options)
+    given None one all = cc all
+    given (Some so_far) one all =
+        let t = has_turns name word so_far one in
+        let r = no_more t.number more options (subst (λ (o : Options). options_after o more ≡ Some options) t.given all) in
+        with_turns word t.number (λ i. codes "replay" ∷ t.named i ∷ word ∷ r.0 i) t.spelled (ap Replay r.1)
+
+replayed : (rest : List (List ℕ)) (o : Option Options) (command : Command) → options_after no_options rest ≡ o → option_map Replay o ≡ Some command → Form (codes "replay" ∷ rest) command
+replayed rest None command is e = cc e
+replayed rest (Some options) command is e = subst (Form (codes "replay" ∷ rest)) (cc e) (replay_form rest options is)
+
+checked : (rest : List (List ℕ)) (command : Command) → alone Check rest ≡ Some command → Form (codes "check" ∷ rest) command
+checked [] command e = check refl (sym (cc e))
+checked (word ∷ words) command e = cc e
+
+pub forms : (words : List (List ℕ)) (command : Command) → command_of words ≡ Some command → Form words command
+forms [] command e = cc e
+forms (name ∷ words) command e = by_name (bytes_eq name (codes "replay")) refl e
+  where
+    by_name : (b : Bool) → bytes_eq name (codes "replay") ≡ b → cond b (option_map Replay (options_after no_options words)) (only_if (bytes_eq name (codes "check")) (alone Check words)) ≡ Some command → Form (name ∷ words) command
+    by_name true is e =
+        let named : name ≡ codes "replay" = (bytes_eq-Decides name (codes "replay")).0 is in
+        subst (λ (n : List ℕ). Form (n ∷ words) command) (sym named) (replayed words (options_after no_options words) command refl e)
+    by_name false is e =
+        let p = if_passed (bytes_eq name (codes "check")) (alone Check words) command e in
+        let named : name ≡ codes "check" = (bytes_eq-Decides name (codes "check")).0 p.0 in
+        subst (λ (n : List ℕ). Form (n ∷ words) command) (sym named) (checked words command p.1)
+
+-- ---- what is said
+
+-- a command of that name is `check`
+pub said_check : (name turns : Option (List ℕ)) (o : Option Command) → IsSaid name turns o → name ≡ Some (codes "check") → o ≡ Some Check
+said_check name turns None said is = absurd said
+said_check name turns (Some Check) said is = refl
+said_check name turns (Some (Replay options)) said is = let other : Some (codes "replay") ≡ Some (codes "check") = sym said.0 ∙ is in cc other
+
+-- a command of another name is `replay`, with its options
+pub said_replay : (name turns : Option (List ℕ)) (o : Option Command) → IsSaid name turns o → (name ≡ Some (codes "check") → ⊥) → (options : Options) × (o ≡ Some (Replay options)) × IsTurns turns options
+said_replay name turns None said other = absurd said
+said_replay name turns (Some Check) said other = absurd (other said)
+said_replay name turns (Some (Replay options)) said other = (options, refl, said.1)
 
 -- ---- the number that is read
 
@@ -126,6 +158,6 @@ module _ {E : Type 0} (G : List ℕ → Result ℕ E → Type 0) (parses : (word
   one_read word n None is g = number_read {E = E} word n (Err g.0) is (parses word (Err g.0) g.1)
 
   -- what `clap` gives for the option, read as a number, is what is asked for
-  pub turns_read : (given : Option (List ℕ)) (o : Option Options) (r : Option ℕ) → IsTurns given o → (given ≡ None → r ≡ None) → ((word : List ℕ) → given ≡ Some word → ReadsOne G word r) → o ≡ Some (with_number r)
-  turns_read None o r is none some = is ∙ λ i. Some (with_number (sym (none refl) i))
-  turns_read (Some word) o r is none some = is.2 ∙ λ i. Some (with_number (sym (one_read word is.0 r is.1 (some word refl)) i))
+  pub turns_read : (given : Option (List ℕ)) (options : Options) (r : Option ℕ) → IsTurns given options → (given ≡ None → r ≡ None) → ((word : List ℕ) → given ≡ Some word → ReadsOne G word r) → options ≡ with_number r
+  turns_read None options r is none some = is ∙ λ i. with_number (sym (none refl) i)
+  turns_read (Some word) options r is none some = is.2 ∙ λ i. with_number (sym (one_read word is.0 r is.1 (some word refl)) i)

@@ -1,5 +1,5 @@
 -- What each answer of the top call says.
-use Rattle.std.specs.Prelude.{◌≡◌, ◌⊎◌, ◌↔◌, ℕ, ◌+◌, ◌≤◌, List, [], length, Option, Some, None, unwrap_or, Result, Ok, Err}
+use Rattle.std.specs.Prelude.{◌≡◌, ◌⊎◌, ◌↔◌, ℕ, ◌+◌, ◌≤◌, List, [], length, Option, Some, None, unwrap_or, Ok, Err}
 use Rattle.rt_base.specs.declared.ended.Ended.{Ended}
 use Rattle.rt_base.specs.declared.ended.Ended.TheVariants as ends
 use Rattle.rt_base.specs.Outside.{Rises, IsAtEnd, Appends, AppendsPrefix}
@@ -10,12 +10,17 @@ use Rattle.rt_model.specs.Order.{replayed}
 use Rattle.rt_model.specs.laws.Sound.{IsSound}
 use Rattle.rt_script.specs.Grammar.{FaultAt, script_of}
 use Rattle.rt_core.specs.Text.{replay_text}
+use Rattle.rt_check.specs.Legal.{IsLegal}
+use Rattle.rt_check.specs.FirstWrong.{IsFirstWrong}
+use Rattle.rt_top.specs.declared.command.Command.{Command}
+use Rattle.rt_top.specs.declared.command.Command.TheVariants.{Replay, Check}
 use Rattle.rt_top.specs.declared.options.Options.{Options}
 use Rattle.rt_top.specs.declared.status.Status.{Status}
 use Rattle.rt_top.specs.declared.status.Status.TheVariants as statuses
-use Rattle.rt_top.specs.declared.top.TheConstants.{MAX_BYTES}
-use Rattle.rt_top.specs.Message.{usage_line, read_fault_line, too_long_line, bad_script_line}
+use Rattle.rt_top.specs.Checked.{script_part, journal_part}
+use Rattle.rt_top.specs.Message.{usage_line, read_fault_line, too_long_line, bad_script_line, legal_line, illegal_line}
 use Rattle.rt_top.specs.Turns.{IsCutShort, after_picks}
+use Rattle.rt_top.specs.Words.{most_bytes}
 
 -- the sink of a call: what it held before and holds after it, and how often it had failed
 pub record Output : Type 0 where
@@ -80,28 +85,51 @@ AnswersBadScript statuses.BadScript fault output = IsTold (bad_script_line fault
 AnswersBadScript statuses.NoMemory fault output = Unit {0}
 AnswersBadScript _ fault output = ⊥
 
--- what an answer says of an input that was read whole: no script, for its first fault, or a script and its replay
-abbrev pub AnswersInput : Options → Status → List ℕ → Output → Type 0
-AnswersInput options statuses.BadScript input output = (fault : FaultAt) × (script_of input ≡ Err fault) × IsTold (bad_script_line fault) output
-AnswersInput options statuses.NoMemory input output = Unit {0}
-AnswersInput options status input output = (script : Script) × (script_of input ≡ Ok script) × Replays status script (turns_of options script) output
+-- what an answer says of a journal: the text of a run, which is told with how that ended, or no run's, for its first wrong line
+abbrev pub Judges : Status → Script → List ℕ → Output → Type 0
+Judges statuses.Done script journal output = (ended : Ended) × IsLegal script journal ended × Appends output.held_before (legal_line ended) output.held_after × (output.faults_after ≡ output.faults_before)
+Judges statuses.Illegal script journal output = ((ended : Ended) → IsLegal script journal ended → ⊥) × ((line : ℕ) × (why : ℕ) × IsFirstWrong script journal line why × IsTold (illegal_line line why) output)
+Judges statuses.WriteFault script journal output = (ended : Ended) × IsLegal script journal ended × Rises output.faults_before output.faults_after × AppendsPrefix output.held_before (legal_line ended) output.held_after
+Judges statuses.NoMemory script journal output = Unit {0}
+Judges _ script journal output = ⊥
 
--- the input was read to its end, within the limit and without a fault
-pub record IsWhole (bytes : List ℕ) (input : Input) : Type 0 where
+-- the script of a command's input: all of it, or what stands before the journal
+abbrev pub script_text : Command → List ℕ → List ℕ
+script_text (Replay options) input = input
+script_text Check input = script_part input
+
+-- the journal of a command's input, where the command takes one
+abbrev pub journal_text : Command → List ℕ → List ℕ
+journal_text (Replay options) input = []
+journal_text Check input = journal_part input
+
+-- what an answer of a command says of a script and of a journal
+abbrev pub AnswersScript : Command → Status → Script → List ℕ → Output → Type 0
+AnswersScript (Replay options) status script journal output = Replays status script (turns_of options script) output
+AnswersScript Check status script journal output = Judges status script journal output
+
+-- what an answer says of an input that was read whole: no script, for its first fault, or a script and what comes of it
+abbrev pub AnswersInput : Command → Status → List ℕ → Output → Type 0
+AnswersInput command statuses.BadScript input output = (fault : FaultAt) × (script_of (script_text command input) ≡ Err fault) × IsTold (bad_script_line fault) output
+AnswersInput command statuses.NoMemory input output = Unit {0}
+AnswersInput command status input output = (script : Script) × (script_of (script_text command input) ≡ Ok script) × AnswersScript command status script (journal_text command input) output
+
+-- the input was read to its end, within the command's limit and without a fault
+pub record IsWhole (command : Command) (bytes : List ℕ) (input : Input) : Type 0 where
   pub at_end : IsAtEnd input.left
-  pub short : length bytes ≤ MAX_BYTES
+  pub short : length bytes ≤ most_bytes command
   pub no_fault : input.faults_after ≡ input.faults_before
 
--- what an answer says of the bytes that were read and of the outside, where the words ask for a replay
-abbrev pub AnswersReplay : Options → Status → List ℕ → Input → Output → Type 0
-AnswersReplay options statuses.Usage bytes input output = ⊥
-AnswersReplay options statuses.ReadFault bytes input output = Rises input.faults_before input.faults_after × (length bytes ≤ MAX_BYTES) × IsTold read_fault_line output
-AnswersReplay options statuses.TooLong bytes input output = (length bytes ≡ MAX_BYTES + 1) × (input.faults_after ≡ input.faults_before) × IsTold too_long_line output
-AnswersReplay options statuses.NoMemory bytes input output = (length bytes ≤ MAX_BYTES + 1) × (input.faults_after ≡ input.faults_before)
-AnswersReplay options status bytes input output = IsWhole bytes input × AnswersInput options status bytes output
+-- what an answer says of the bytes that were read and of the outside, where the words ask for that command
+abbrev pub AnswersCommand : Command → Status → List ℕ → Input → Output → Type 0
+AnswersCommand command statuses.Usage bytes input output = ⊥
+AnswersCommand command statuses.ReadFault bytes input output = Rises input.faults_before input.faults_after × (length bytes ≤ most_bytes command) × IsTold read_fault_line output
+AnswersCommand command statuses.TooLong bytes input output = (length bytes ≡ most_bytes command + 1) × (input.faults_after ≡ input.faults_before) × IsTold too_long_line output
+AnswersCommand command statuses.NoMemory bytes input output = (length bytes ≤ most_bytes command + 1) × (input.faults_after ≡ input.faults_before)
+AnswersCommand command status bytes input output = IsWhole command bytes input × AnswersInput command status bytes output
 
 -- what an answer says where the words ask for that, or aren't taken
-abbrev pub Answers : Option Options → Status → List ℕ → Input → Output → Type 0
-Answers (Some options) status bytes input output = AnswersReplay options status bytes input output
+abbrev pub Answers : Option Command → Status → List ℕ → Input → Output → Type 0
+Answers (Some command) status bytes input output = AnswersCommand command status bytes input output
 Answers None statuses.Usage bytes input output = (bytes ≡ []) × IsTold usage_line output
 Answers None _ bytes input output = ⊥

@@ -2,6 +2,7 @@ pub mod Limits
 pub mod Status
 pub mod Words
 pub mod Message
+pub mod Checked
 pub mod Turns
 pub mod Printing
 pub mod Playing

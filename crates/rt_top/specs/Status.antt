@@ -3,7 +3,7 @@ use Rattle.std.specs.Prelude.{ℕ}
 use Rattle.rt_base.specs.declared.ended.Ended.{Ended}
 use Rattle.rt_base.specs.declared.ended.Ended.TheVariants as ends
 use Rattle.rt_top.specs.declared.status.Status.{Status}
-use Rattle.rt_top.specs.declared.status.Status.TheVariants.{Done, Usage, BadScript, Stuck, Limit, ReadFault, WriteFault, NoMemory, TooLong}
+use Rattle.rt_top.specs.declared.status.Status.TheVariants.{Done, Usage, BadScript, Stuck, Limit, ReadFault, WriteFault, NoMemory, TooLong, Illegal}
 
 -- the exit status of each answer
 abbrev pub status_number : Status → ℕ
@@ -16,6 +16,7 @@ status_number ReadFault = 6
 status_number WriteFault = 7
 status_number NoMemory = 8
 status_number TooLong = 9
+status_number Illegal = 10
 
 -- the answer of a run that was printed whole
 abbrev pub status_of : Ended → Status

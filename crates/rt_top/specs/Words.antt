@@ -1,6 +1,9 @@
 -- The words after the program's name, and what they ask for.
-use Rattle.std.specs.Prelude.{◌≡◌, ℕ, true, ◌&&◌, not, List, [], ◌∷◌, map, String, string_bytes, Option, Some, None, is_some, bytes_eq, codes}
+use Rattle.std.specs.Prelude.{◌≡◌, ℕ, true, ◌&&◌, not, List, [], ◌∷◌, map, String, string_bytes, Option, Some, None, is_some, option_map, bytes_eq, codes, if◌then◌else◌}
 use Rattle.rt_script.specs.Words.{◌>>=◌, only_if, number_upto}
+use Rattle.rt_top.specs.declared.command.Command.{Command}
+use Rattle.rt_top.specs.declared.command.Command.TheVariants.{Replay, Check}
+use Rattle.rt_top.specs.declared.command.TheConstants.{MAX_BYTES, MAX_CHECK_BYTES}
 use Rattle.rt_top.specs.declared.options.Options.{Options}
 use Rattle.rt_top.specs.declared.options.TheConstants.{MAX_TURNS}
 
@@ -23,16 +26,38 @@ options_after options [] = Some options
 options_after options (name ∷ []) = None
 options_after options (name ∷ word ∷ words) = with_option options name word >>= λ more. options_after more words
 
--- what the words ask for, where they are taken: `replay` and its options
-abbrev pub options_of : List (List ℕ) → Option Options
-options_of [] = None
-options_of (command ∷ words) = only_if (bytes_eq command (codes "replay")) (options_after no_options words)
+-- the command, where no word is left
+abbrev pub alone : Command → List (List ℕ) → Option Command
+alone command [] = Some command
+alone command (word ∷ words) = None
+
+-- the command of that name with these words after it: `replay` with its options, or `check` alone
+abbrev pub command_named : List ℕ → List (List ℕ) → Option Command
+command_named name words =
+    if bytes_eq name (codes "replay") then option_map Replay (options_after no_options words)
+    else only_if (bytes_eq name (codes "check")) (alone Check words)
+
+-- what the words ask for, where they are taken
+abbrev pub command_of : List (List ℕ) → Option Command
+command_of [] = None
+command_of (name ∷ words) = command_named name words
 
 -- the words that the program takes
 abbrev pub IsAccepted : List (List ℕ) → Type 0
-IsAccepted words = is_some (options_of words) ≡ true
+IsAccepted words = is_some (command_of words) ≡ true
+
+-- the most bytes that the input of a command has
+abbrev pub most_bytes : Command → ℕ
+most_bytes (Replay options) = MAX_BYTES
+most_bytes Check = MAX_CHECK_BYTES
 
 -- the word after `--turns`, where there is one, spells the number that is asked for
-abbrev pub IsTurns : Option (List ℕ) → Option Options → Type 0
-IsTurns None options = options ≡ Some no_options
-IsTurns (Some word) options = (n : ℕ) × (number_upto MAX_TURNS word ≡ Some n) × (options ≡ Some (record { turns = Some n }))
+abbrev pub IsTurns : Option (List ℕ) → Options → Type 0
+IsTurns None options = options ≡ no_options
+IsTurns (Some word) options = (n : ℕ) × (number_upto MAX_TURNS word ≡ Some n) × (options ≡ record { turns = Some n })
+
+-- the command's name and the word after `--turns`, where they are given, say what is asked for
+abbrev pub IsSaid : Option (List ℕ) → Option (List ℕ) → Option Command → Type 0
+IsSaid name turns None = ⊥
+IsSaid name turns (Some (Replay options)) = (name ≡ Some (codes "replay")) × IsTurns turns options
+IsSaid name turns (Some Check) = name ≡ Some (codes "check")

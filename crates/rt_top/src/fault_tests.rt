@@ -164,7 +164,7 @@ fn each_write_fails(rt: HostRuntime) -> Result<(), Fail> {
 fn message_whose_write_fails_keeps_its_status(rt: HostRuntime) -> Result<(), Fail> {
     let alloc = rt.alloc();
     let long = too_long(alloc)?;
-    let rows: [(&str, &[u8], u32, u8, &str); 4] = [
+    let rows: [(&str, &[u8], u32, u8, &str); 5] = [
         ("x", b"", NEVER, 2, "usage: rtlab replay"),
         (
             "replay",
@@ -175,6 +175,7 @@ fn message_whose_write_fails_keeps_its_status(rt: HostRuntime) -> Result<(), Fai
         ),
         ("replay", b"", 0, 6, "read fault\n"),
         ("replay", &long, NEVER, 9, "too long\n"),
+        ("check", b"rtscript 1\ngo\n", NEVER, 10, "illegal 1 1\n"),
     ];
     for (word, text, read, status, line) in rows {
         for fail in 0..9 {

@@ -1,6 +1,9 @@
-//! The top call: from the words and the bytes of a lock script to the bytes of a journal and a status.
+//! The top call: from the words and the bytes of a lock script to the bytes of a journal, or of what is said of one, and
+//! a status.
 #![tactic(auto)]
 
+mod checking;
+mod command;
 #[cfg(test)]
 mod fault_tests;
 mod message;

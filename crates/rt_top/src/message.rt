@@ -1,9 +1,9 @@
-// The lines that tell why nothing was played.
+// The lines that tell what came of a journal, or why nothing was played.
 ghost use Rattle.std.specs.Prelude.{◌≡◌, ◌≤◌, IfOk, string_bytes};
 ghost use Rattle.rt_top.specs.Answer.{IsTold, output_of};
-ghost use Rattle.rt_top.specs.Message.{bad_script_line, fault_at, fault_number, read_fault_line, too_long_line, usage_line};
+ghost use Rattle.rt_top.specs.Message.{bad_script_line, fault_at, fault_number, illegal_line, legal_line, read_fault_line, too_long_line, usage_line};
 
-use rt_base::{Sink, write_whole};
+use rt_base::{Ended, Sink, write_whole};
 use rt_script::Why;
 use std::alloc::{AllocError, Global};
 
@@ -32,6 +32,24 @@ pub fn bad_script(alloc: Global, line: u32, why: Why) -> Result<String, AllocErr
 {
     let number = fault_number(why);
     format!(in alloc; "bad script: line {line}, fault {number}\n")
+}
+
+/// The line that tells that a journal is a run's, and how that ended.
+pub fn legal(ended: Ended) -> &'static str
+    ensures { result.now ≡ legal_line ended }
+{
+    match ended {
+        Ended::Done => "legal done\n",
+        Ended::Stuck => "legal stuck\n",
+        Ended::Limit => "legal limit\n",
+    }
+}
+
+/// The line that tells which line of a journal is the first wrong one, numbered from 1, and why.
+pub fn illegal(alloc: Global, line: u32, why: u8) -> Result<String, AllocError>
+    ensures { IfOk result (λ text. string_bytes text ≡ illegal_line line why) }
+{
+    format!(in alloc; "illegal {line} {why}\n")
 }
 
 /// Writes a line. Where the sink fails, some prefix of it was written.

@@ -258,18 +258,5 @@ pub fn finish<K: Sink>(
 {
     play_chosen(core, script, last, turns, first, buf, out)?;
     flush(buf, out)?;
-    Ok(ended(core))
-}
-
-/// How a run stands that leaves this core.
-fn ended(core: &Core) -> Ended
-    ensures { result ≡ ended_of core.now.state }
-{
-    if core.done() {
-        Ended::Done
-    } else if core.stuck() {
-        Ended::Stuck
-    } else {
-        Ended::Limit
-    }
+    Ok(core.ended())
 }

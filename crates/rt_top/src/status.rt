@@ -6,7 +6,7 @@ use rt_base::Ended;
 /// How a command ended.
 #[derive(Clone, Copy, Debug, PartialEq, Eq)]
 pub enum Status {
-    /// All tasks are at the end of their calls.
+    /// All tasks are at the end of their calls, or the journal that was judged is a run's.
     Done,
     /// The words are none that the program takes.
     Usage,
@@ -22,8 +22,10 @@ pub enum Status {
     WriteFault,
     /// Memory ran out.
     NoMemory,
-    /// The input is longer than a script may be.
+    /// The input is longer than the command takes.
     TooLong,
+    /// The journal isn't a run of its script.
+    Illegal,
 }
 
 impl Status {
@@ -41,6 +43,7 @@ impl Status {
             Status::WriteFault => 7,
             Status::NoMemory => 8,
             Status::TooLong => 9,
+            Status::Illegal => 10,
         }
     }
 

@@ -1,14 +1,17 @@
 ghost use Rattle.std.specs.Prelude.{◌≡◌, ◌≢◌, ◌↔◌, ◌≤◌, ℕ, List, length};
 ghost use Rattle.rt_base.specs.Outside.{Takes};
 ghost use Rattle.rt_base.specs.Script.{IsScript};
-ghost use Rattle.rt_top.specs.Words.{IsAccepted, bytes_of, options_of};
-ghost use Rattle.rt_top.specs.Answer.{Answers, AnswersReplay, AnswersInput, Replays, AnswersBadScript, input_of, output_of, turns_of};
+ghost use Rattle.rt_top.specs.Words.{IsAccepted, bytes_of, command_of, most_bytes};
+ghost use Rattle.rt_top.specs.declared.command.TheConstants.{MAX_CHECK_BYTES};
+ghost use Rattle.rt_top.specs.Answer.{Answers, AnswersCommand, AnswersInput, AnswersScript, Replays, AnswersBadScript, input_of, journal_text, output_of, script_text, turns_of};
 ghost use Rattle.rt_top.specs.Message.{fault_at};
 ghost use Rattle.rt_top.specs.Status.{status_number};
 ghost use Rattle.rt_top.specs.declared.status.Status.{Status};
 
+use crate::checking::{check_journal, parts};
+use crate::command::{Command, command_in};
 use crate::message::{bad_script, tell, tell_read_fault, tell_too_long, tell_usage};
-use crate::options::{MAX_TURNS, Options, options_in};
+use crate::options::{MAX_TURNS, Options};
 use crate::replaying::print_replay;
 use crate::status::Status;
 use crate::words::is_accepted;
@@ -18,16 +21,15 @@ use rt_script::{Script, ScriptFault, Why, read_script};
 use std::alloc::Global;
 use std::thread::Threads;
 
-/// The longest script, in bytes.
-const MAX_BYTES: u32 = 1_048_576;
-
 /// How much text is gathered before it goes to the sink.
 const BUFFER: usize = 64 * 1024;
 
 /// The whole program but for its standard streams: takes the words after the program's name, reads the
-/// source, writes the sink, and answers the exit status. The one command is `replay`: it reads a script,
-/// makes the picks and then events in the stated order, at most as many as `--turns` says or else the
-/// budget, and writes journal and report. Where nothing is played, it writes one line that says why.
+/// source, writes the sink, and answers the exit status. The command `replay` reads a script, makes the picks
+/// and then events in the stated order, at most as many as `--turns` says or else the budget, and writes
+/// journal and report. `check` reads a script and, behind its first line `go`, a journal with report, and
+/// writes whether that is one of a run of the script, and how the run ended, or else which line is the first
+/// wrong one, and why. Where neither is done, one line is written that says why.
 pub fn rtlab<R: Threads + Sync, S: Source, K: Sink, T: Turnstile + Sync>(
     rt: &R,
     alloc: Global,
@@ -43,7 +45,7 @@ pub fn rtlab<R: Threads + Sync, S: Source, K: Sink, T: Turnstile + Sync>(
     // One list of bytes stands for those that were read, and what the answer says is true of it.
     ensures outcome { (status : Status) × (bytes : List ℕ) × (result ≡ status_number status)
         × Takes (S.left src.old) bytes (S.left src.new)
-        × Answers (options_of (bytes_of words.now)) status bytes
+        × Answers (command_of (bytes_of words.now)) status bytes
         (input_of S.left S.faults src.old src.new) (output_of K.held K.faults out.old out.new) }
 
     // All memory is taken before the first byte is written.
@@ -51,16 +53,16 @@ pub fn rtlab<R: Threads + Sync, S: Source, K: Sink, T: Turnstile + Sync>(
     ensures read_count { S.faults src.old ≤ S.faults src.new }
     ensures write_count { K.faults out.old ≤ K.faults out.new }
 {
-    command(alloc, words, src, out).number()
+    answer(alloc, words, src, out).number()
 }
 
-// The command that the words name.
-fn command<S: Source, K: Sink>(alloc: Global, words: &[String], src: &mut S, out: &mut K) -> Status
+// Answers the command that the words name.
+fn answer<S: Source, K: Sink>(alloc: Global, words: &[String], src: &mut S, out: &mut K) -> Status
     ensures usage { (result ≡ Status.Usage) ↔ (IsAccepted (bytes_of words.now) → ⊥) }
     ensures unread { result ≡ Status.Usage → src.new ≡ src.old }
     ensures outcome { (bytes : List ℕ)
         × Takes (S.left src.old) bytes (S.left src.new)
-        × Answers (options_of (bytes_of words.now)) result bytes
+        × Answers (command_of (bytes_of words.now)) result bytes
         (input_of S.left S.faults src.old src.new) (output_of K.held K.faults out.old out.new) }
     ensures unwritten { result ≡ Status.NoMemory → out.new ≡ out.old }
     ensures read_count { S.faults src.old ≤ S.faults src.new }
@@ -70,25 +72,30 @@ fn command<S: Source, K: Sink>(alloc: Global, words: &[String], src: &mut S, out
         tell_usage(out);
         return Status::Usage;
     }
-    match options_in(alloc, words) {
-        Ok(options) => replay(alloc, options, src, out),
+    match command_in(alloc, words) {
+        Ok(command) => answer_command(alloc, command, src, out),
         Err(NoMemory) => Status::NoMemory,
     }
 }
 
-// Replays the script that the source holds.
-fn replay<S: Source, K: Sink>(alloc: Global, options: Options, src: &mut S, out: &mut K) -> Status
+// Reads the input of a command, and answers it.
+fn answer_command<S: Source, K: Sink>(
+    alloc: Global,
+    command: Command,
+    src: &mut S,
+    out: &mut K,
+) -> Status
     ensures outcome { (bytes : List ℕ)
         × Takes (S.left src.old) bytes (S.left src.new)
-        × AnswersReplay options result bytes
+        × AnswersCommand command result bytes
         (input_of S.left S.faults src.old src.new) (output_of K.held K.faults out.old out.new) }
     ensures unwritten { result ≡ Status.NoMemory → out.new ≡ out.old }
     ensures read_count { S.faults src.old ≤ S.faults src.new }
     ensures write_count { K.faults out.old ≤ K.faults out.new }
 {
     let mut bytes = Vec::new(alloc);
-    match read_whole(alloc, src, MAX_BYTES, &mut bytes) {
-        Ok(Taken::Whole) => replay_input(alloc, options, &bytes, out),
+    match read_whole(alloc, src, command.most_bytes(), &mut bytes) {
+        Ok(Taken::Whole) => answer_input(alloc, command, &bytes, out),
         Ok(Taken::Over) => {
             tell_too_long(out);
             Status::TooLong
@@ -101,18 +108,52 @@ fn replay<S: Source, K: Sink>(alloc: Global, options: Options, src: &mut S, out:
     }
 }
 
-// Replays the script that these bytes are.
-fn replay_input<K: Sink>(alloc: Global, options: Options, bytes: &[u8], out: &mut K) -> Status
-    requires { length bytes.now ≤ MAX_BYTES }
-    ensures outcome { AnswersInput options result bytes.now (output_of K.held K.faults out.old out.new) }
+// What of a command's input is the script, and what the journal.
+fn parts_for(command: Command, input: &[u8]) -> (&[u8], &[u8])
+    ensures script { result.0.now ≡ script_text command input.now }
+    ensures journal { result.1.now ≡ journal_text command input.now }
+{
+    match command {
+        Command::Replay(_) => (input, &[]),
+        Command::Check => parts(input),
+    }
+}
+
+// Answers a command whose input these bytes are.
+fn answer_input<K: Sink>(alloc: Global, command: Command, bytes: &[u8], out: &mut K) -> Status
+    requires { length bytes.now ≤ most_bytes command }
+    ensures outcome { AnswersInput command result bytes.now (output_of K.held K.faults out.old out.new) }
     ensures read { (result ≢ Status.Usage) × (result ≢ Status.ReadFault) × (result ≢ Status.TooLong) }
     ensures unwritten { result ≡ Status.NoMemory → out.new ≡ out.old }
     ensures write_count { K.faults out.old ≤ K.faults out.new }
 {
-    match read_script(alloc, bytes) {
-        Ok(script) => replay_script(alloc, options, &script, out),
+    let (text, journal) = parts_for(command, bytes);
+    match read_script(alloc, text) {
+        Ok(script) => answer_script(alloc, command, &script, journal, out),
         Err(ScriptFault::At { line, why }) => answer_bad_script(alloc, line, why, out),
         Err(ScriptFault::Memory(_)) => Status::NoMemory,
+    }
+}
+
+// Answers a command that has this script and this journal.
+fn answer_script<K: Sink>(
+    alloc: Global,
+    command: Command,
+    script: &Script,
+    journal: &[u8],
+    out: &mut K,
+) -> Status
+    requires valid { IsScript script.now }
+    requires short { length journal.now ≤ MAX_CHECK_BYTES }
+    ensures outcome { AnswersScript command result script.now journal.now
+        (output_of K.held K.faults out.old out.new) }
+    ensures read { (result ≢ Status.Usage) × (result ≢ Status.ReadFault) × (result ≢ Status.TooLong) }
+    ensures unwritten { result ≡ Status.NoMemory → out.new ≡ out.old }
+    ensures write_count { K.faults out.old ≤ K.faults out.new }
+{
+    match command {
+        Command::Replay(options) => replay_script(alloc, options, script, out),
+        Command::Check => check_journal(alloc, script, journal, out),
     }
 }
 

@@ -1,6 +1,6 @@
 ghost use Rattle.std.specs.Prelude.{◌≡◌, ◌↔◌, ◌<◌, length, is_some, slice_index, IsTrue};
 ghost use Rattle.rt_script.specs.Words.{number_upto};
-ghost use Rattle.rt_top.specs.Words.{bytes_of, options_of, options_after, with_option, no_options};
+ghost use Rattle.rt_top.specs.Words.{bytes_of, command_named, command_of, options_after, with_option, no_options};
 
 use crate::options::MAX_TURNS;
 
@@ -50,12 +50,23 @@ fn are_options(words: &[String]) -> bool
     }
 }
 
+// Whether the command takes these options.
+fn takes(name: &str, options: &[String]) -> bool
+    ensures { result ≡ is_some (command_named name.now (bytes_of options.now)) }
+{
+    if name == "replay" {
+        are_options(options)
+    } else {
+        name == "check" && options.is_empty()
+    }
+}
+
 /// Whether the words are taken.
 pub fn is_accepted(words: &[String]) -> bool
-    ensures { result ≡ is_some (options_of (bytes_of words.now)) }
+    ensures { result ≡ is_some (command_of (bytes_of words.now)) }
 {
     match words {
-        [command, options @ ..] => command.as_str() == "replay" && are_options(options),
+        [name, options @ ..] => takes(name, options),
         [] => false,
     }
 }

@@ -10,7 +10,8 @@ const USAGE: &str =
 #[test]
 fn words_that_are_taken(rt: HostRuntime) -> Result<(), Fail> {
     let alloc = rt.alloc();
-    let rows: [(&[&str], u8); 5] = [
+    let rows: [(&[&str], u8); 6] = [
+        (&["check"], 10),
         (&["replay"], 0),
         (&["replay", "--turns", "0"], 5),
         (&["replay", "--turns", "1"], 5),
@@ -38,7 +39,7 @@ fn words_that_are_taken(rt: HostRuntime) -> Result<(), Fail> {
 #[test]
 fn words_that_are_not_taken(rt: HostRuntime) -> Result<(), Fail> {
     let alloc = rt.alloc();
-    let rows: [&[&str]; 33] = [
+    let rows: [&[&str]; 37] = [
         &[],
         &[""],
         &["replay", ""],
@@ -72,6 +73,10 @@ fn words_that_are_not_taken(rt: HostRuntime) -> Result<(), Fail> {
         &["--help"],
         &["--version"],
         &["replay", "-h"],
+        &["check", ""],
+        &["check", "check"],
+        &["check", "--turns", "3"],
+        &["Check"],
     ];
     for texts in rows {
         let mut src = MemSource::new(ONE_MUTEX.to_vec(alloc)?, [0].to_vec(alloc)?);
@@ -107,7 +112,9 @@ fn order_of_refusals(rt: HostRuntime) -> Result<(), Fail> {
     let bad = b"rtscript 1\nrun\n".to_vec(alloc)?;
     let long = too_long(alloc)?;
     let row = ONE_MUTEX.to_vec(alloc)?;
-    let rows: [(&str, &Vec<u8>, u32, u32, u8, &str); 10] = [
+    let legal = b"rtscript 1\ngo\nrtjournal 1\nend done\n".to_vec(alloc)?;
+    let illegal = b"rtscript 1\ngo\nrtjournal 1\nend stuck\n".to_vec(alloc)?;
+    let rows: [(&str, &Vec<u8>, u32, u32, u8, &str); 15] = [
         // words before a read, a read before a script, a script before a write
         ("x", &whole, 0, 9, 2, USAGE),
         ("x", &whole, 0, 0, 2, ""),
@@ -120,6 +127,12 @@ fn order_of_refusals(rt: HostRuntime) -> Result<(), Fail> {
         // a fault within the limit, and one that would come after it
         ("replay", &long, 16, 9, 6, "read fault\n"),
         ("replay", &long, 17, 9, 9, "too long\n"),
+        // a script before a journal, a journal before a write
+        ("check", &bad, 9, 9, 3, "bad script: line 2, fault 3\n"),
+        ("check", &illegal, 9, 9, 10, "illegal 2 3\n"),
+        ("check", &illegal, 9, 0, 10, ""),
+        ("check", &legal, 9, 9, 0, "legal done\n"),
+        ("check", &legal, 9, 0, 7, ""),
     ];
     for (word, text, read, write, status, printed) in rows {
         let mut src = MemSource::new(text.to_vec(alloc)?, [read].to_vec(alloc)?);

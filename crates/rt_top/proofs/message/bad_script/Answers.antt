@@ -1,11 +1,8 @@
-use Rattle.std.proofs.Common.{◌≡◌, ◌∙◌, ℕ, List, [], ◌∷◌, ◌++◌, sym, ap, append_assoc, codes}
+use Rattle.std.proofs.Common.{◌∙◌, ℕ, List, [], ◌∷◌, ◌++◌, ap, codes}
 use Rattle.std.specs.Prelude.{decimal}
 use Rattle.std.proofs.lemmas.Result.{IfOk-weaker}
+use Rattle.rt_top.proofs.MessageWritten.{grouped}
 use Rattle.rt_top.proofs.message.bad_script.Goals as goal
-
--- five parts, grouped from the left
-grouped : (a b c d e : List ℕ) → a ++ (b ++ (c ++ (d ++ e))) ≡ a ++ b ++ c ++ d ++ e
-grouped a b c d e = sym (append_assoc a b (c ++ (d ++ e))) ∙ (sym (append_assoc (a ++ b) c (d ++ e)) ∙ sym (append_assoc (a ++ b ++ c) d e))
 
 pub returns : goal.returns
 returns c =

@@ -1,14 +1,14 @@
 use Rattle.std.proofs.Common.{rules, ◌≡◌, ◌∙◌, sym, ap, ap₂, subst, codes, true, map, List, Option, String, Global}
 use Rattle.std.specs.Prelude.{string_bytes}
 use Rattle.std.proofs.lemmas.Result.{IfErr-weaker, IfOk-weaker}
-use Rattle.clap.specs.Words.{App, Text, app_of, is_simple, matches_of, new_rule, one_text, found_of, rows_of, rule_of, takes, with_rule}
-use Rattle.clap.specs.Walk.{one_of}
+use Rattle.clap.specs.Words.{App, Text, app_of, is_simple, matches_of, new_rule, first_value, one_text, found_of, rows_of, rule_of, takes, with_rule}
+use Rattle.clap.specs.Walk.{first_of, one_of}
 use Rattle.clap.specs.declared.parser.matches.ArgMatches.{ArgMatches}
-use Rattle.rt_top.specs.Words.{IsTurns, options_of}
+use Rattle.rt_top.specs.Words.{IsSaid, command_of}
 use Rattle.clap.specs.Simple.{app_of_fields, on_top}
-use Rattle.clap.proofs.WalkLemmas.{one_text-rows}
+use Rattle.clap.proofs.WalkLemmas.{first_value-rows, one_text-rows}
 use Rattle.rt_top.proofs.Cli.{cli, command_rule, turns_rule, patience_rule, bare, IsRead, read_words}
-use Rattle.rt_top.proofs.options.matches.Goals as goal
+use Rattle.rt_top.proofs.command.matches.Goals as goal
 
 pub returns : goal.returns
 returns c =
@@ -24,8 +24,12 @@ returns c =
     let words : List Text = map (λ (word : String Global). string_bytes word) c.args.words.now in
     let read : IsRead words = read_words words c.requires in
     let given_is : (m : ArgMatches) → rows_of (found_of m) ≡ matches_of (app_of c.in_ok-arg-4.field-0) words → one_text (found_of m) (codes "turns") ≡ one_of (codes "turns") (matches_of cli words) = λ m rows. one_text-rows (found_of m) (codes "turns") ∙ ap (one_of (codes "turns")) (rows ∙ ap (λ (a : App). matches_of a words) cli_is) in
+    let named_is : (m : ArgMatches) → rows_of (found_of m) ≡ matches_of (app_of c.in_ok-arg-4.field-0) words → first_value (found_of m) (codes "command") ≡ first_of (codes "command") (matches_of cli words) = λ m rows. first_value-rows (found_of m) (codes "command") ∙ ap (first_of (codes "command")) (rows ∙ ap (λ (a : App). matches_of a words) cli_is) in
     let parse = c.try_get_matches_from in
     record {
-      turns = IfOk-weaker parse.result _ _ (λ m h. subst (λ (given : Option Text). IsTurns given (options_of words)) (sym (given_is m (h (ap is_simple cli_is)).0)) read.turns) parse.ensures.matches;
+      said = IfOk-weaker parse.result _ _ (λ m h.
+          let rows = (h (ap is_simple cli_is)).0 in
+          subst (λ (given : Option Text). IsSaid (first_value (found_of m) (codes "command")) given (command_of words)) (sym (given_is m rows))
+          (subst (λ (name : Option Text). IsSaid name (one_of (codes "turns") (matches_of cli words)) (command_of words)) (sym (named_is m rows)) read.said)) parse.ensures.matches;
       err = IfErr-weaker parse.result _ _ (λ e h. h (ap (λ (a : App). takes a words) cli_is ∙ read.taken)) parse.ensures.passes;
     }

@@ -1,0 +1,10 @@
+pub mod Lines
+pub mod FirstLines
+pub mod Reached
+pub mod Played
+pub mod NamedEvents
+pub mod Due
+pub mod OneRun
+pub mod Wrong
+pub mod ReportLines
+pub mod Judged

@@ -1,0 +1,13 @@
+pub mod Legal
+pub mod Place
+pub mod MayStand
+pub mod FirstWrong
+pub mod Fault
+pub mod Why
+pub mod Judging
+pub use Rattle.rt_base.specs.Script
+pub use Rattle.rt_model.specs.State
+pub use Rattle.rt_model.specs.Run
+pub use Rattle.rt_events.specs.Journal
+pub use Rattle.rt_core.specs.Report
+pub use Rattle.rt_core.specs.Text

@@ -1,0 +1,5 @@
+pub mod Printed
+pub mod PlayLoop
+pub mod Loops
+pub mod Reported
+pub mod Turns

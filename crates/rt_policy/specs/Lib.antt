@@ -1,0 +1,17 @@
+pub mod Turns
+pub mod Printing
+pub mod Playing
+pub use Rattle.rt_base.specs.Outside
+pub use Rattle.rt_base.specs.Script
+pub use Rattle.rt_model.specs.State
+pub use Rattle.rt_model.specs.NextEvent
+pub use Rattle.rt_model.specs.StateAfter
+pub use Rattle.rt_model.specs.Run
+pub use Rattle.rt_model.specs.Order
+pub use Rattle.rt_model.specs.laws
+pub use Rattle.rt_core.specs.Core
+pub use Rattle.rt_core.specs.Report
+pub use Rattle.rt_events.specs.Entry
+pub use Rattle.rt_events.specs.Line
+pub use Rattle.rt_events.specs.WellFormed
+pub use Rattle.rt_events.specs.Journal

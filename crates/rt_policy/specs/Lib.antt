@@ -1,6 +1,8 @@
 pub mod Turns
 pub mod Printing
 pub mod Playing
+pub mod Moving
+pub mod Counts
 pub use Rattle.rt_base.specs.Outside
 pub use Rattle.rt_base.specs.Script
 pub use Rattle.rt_model.specs.State

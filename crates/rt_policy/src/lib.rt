@@ -1,7 +1,11 @@
 //! What chooses and plays a run: the picks of a script and then the stated order, with its journal and report written
-//! to a sink.
+//! to a sink, or with its events counted.
 #![tactic(auto)]
 
+mod counting;
+#[cfg(test)]
+mod counting_tests;
+mod counts;
 mod order;
 mod playing;
 mod printing;
@@ -10,6 +14,8 @@ mod printing_tests;
 mod progress;
 mod reporting;
 
+pub use counting::count_replay;
+pub use counts::Counts;
 pub use order::pick_next;
 pub use playing::{finish, run_picks};
 pub use reporting::write_report;

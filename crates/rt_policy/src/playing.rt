@@ -20,7 +20,7 @@ use crate::progress::Progress;
 use rt_base::limits::LINE_LIMIT;
 use rt_base::{Ended, Failed, Sink, TaskId};
 use rt_core::Core;
-use rt_events::{entry_of, write_line};
+use rt_events::write_event;
 use rt_model::Event;
 use rt_script::Script;
 
@@ -47,7 +47,7 @@ fn make_event<K: Sink>(
     ensures capacity { vec_capacity buf.old ≤ vec_capacity buf.new }
 {
     flush_if_full(buf, out)?;
-    write_line(script, &entry_of(number, e), buf);
+    write_event(script, number, e, buf);
     core.apply(e);
     Ok(())
 }

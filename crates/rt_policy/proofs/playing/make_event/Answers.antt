@@ -1,4 +1,3 @@
-use Rattle.std.proofs.Common.{◌++◌, ◌∙◌, ap}
 use Rattle.rt_events.specs.Entry.{entry}
 use Rattle.rt_events.specs.Line.{line_of}
 use Rattle.rt_policy.proofs.Printed.{Prints-stopped, Prints-gathered}
@@ -10,4 +9,4 @@ returns-in_err-flush_if_full-clause-prints g c =
 
 pub returns-clause-prints : goal.returns-clause-prints
 returns-clause-prints g c =
-    Prints-gathered (line_of c.args.script.now (entry c.args.number c.args.e.now)) c.in_ok-flush_if_full.ensures.prints (c.write_line.ensures.text ∙ ap (λ n. c.flush_if_full.new.buf.items ++ line_of c.args.script.now n) c.entry_of.ensures)
+    Prints-gathered (line_of c.args.script.now (entry c.args.number c.args.e.now)) c.in_ok-flush_if_full.ensures.prints c.write_event.ensures.text

@@ -17,16 +17,29 @@ use Rattle.rt_events.specs.Journal.{lines_of}
 use Rattle.rt_policy.specs.declared.progress.Progress.{Progress}
 use Rattle.rt_policy.specs.Printing.{Prints}
 use Rattle.rt_policy.specs.Playing.{IsPartMade, Moves, Stops}
-use Rattle.rt_policy.proofs.PlayLoop.{Going, Gone, moves_on, stops_at, ends}
+use Rattle.rt_policy.proofs.Going.{Going, Gone, begins, moves_on, ends}
+use Rattle.rt_policy.proofs.PlayLoop.{IsTold, told_none, moves_to, told_more, stops_at}
 
 -- a run is being made and told from this core, this buffer and this sink on
 pub record Looping (script : Script) (first : ℕ) (s0 : State) (whole rest : Played) (s : State) (made0 made : ℕ) (now : Progress) (h0 : Option (List ℕ)) (b0 : List ℕ) (h : Option (List ℕ)) (b : List ℕ) (f0 f room0 room : ℕ) : Type 0 where
-  pub going : Going script first s0 whole rest s now.count h0 b0 h b
+  pub going : Going s0 whole rest s (IsTold script first h0 b0 now.count h b)
   pub made_is : made ≡ made0 + now.count
   pub script_is : IsOf script s
   pub no_fault : f ≡ f0
   pub roomy : room0 ≤ room
   pub last_in : IfSome now.last (λ t. t.0 < length script.tasks)
+
+-- at the start
+pub looping_begins : (script : Script) (first : ℕ) (s : State) (whole : Played) (made : ℕ) (last : Option TaskId) (h : Option (List ℕ)) (b : List ℕ) (f room : ℕ)
+    → IsOf script s → IfSome last (λ t. t.0 < length script.tasks) → Looping script first s whole whole s made made (record { count = 0; last = last }) h b h b f f room room
+looping_begins script first s whole made last h b f room is last_in = record {
+  going = begins s whole (told_none script first h b);
+  made_is = omega arith;
+  script_is = is;
+  no_fault = refl;
+  roomy = omega arith;
+  last_in = last_in;
+}
 
 -- the picks from i on
 pub picked-drop : (items : List TaskId) (i : ℕ) (d : TaskId) (s : State) (last : Option TaskId) → i < length items → picked (drop i items) s last ≡ then_play (picked (drop (suc i) items)) s last (get_or items i d) (next_event s (get_or items i d))
@@ -48,7 +61,7 @@ pub stopped : {script : Script} {first : ℕ} {s0 : State} {whole rest : Played}
     → Prints result h0 b0 h' b' f0 f' (lines_of script first whole.events) × IsPartMade (record { state = s0; made = made0 }) core' whole.events
 stopped (Ok x) cont t next core' h' b' f' is looping stops same rises le err = cc err
 stopped {script} {first} {s0} {whole} {rest} {s} {made0} {made} {now} {h0} {b0} {h} {b} {f0} {f} (Err e) cont t next core' h' b' f' is looping stops same rises le err =
-    let going = subst (λ (r : Played). Going script first s0 whole r s now.count h0 b0 h b) is looping.going in
+    let going = subst (λ (r : Played). Going s0 whole r s (IsTold script first h0 b0 now.count h b)) is looping.going in
     let cut = stops_at script first s0 whole cont s core'.state t next now h0 b0 h b h' stops going in
     let part = cut.1 in
     let made_part : core'.made ≡ made0 + length part.0 = omega (arith, looping.made_is, part.4) in
@@ -62,9 +75,9 @@ pub moved : {script : Script} {first : ℕ} {s0 : State} {whole rest : Played} {
     → (IfSome now.last (λ u. u.0 < length script.tasks) → IfSome now'.last (λ u. u.0 < length script.tasks))
     → Looping script first s0 whole (cont s' now'.last) s' made0 made' now' h0 b0 h' b' f0 f' room0 room'
 moved {script} {first} {s0} {whole} {rest} {s} {made0} {made} {now} {h0} {b0} {h} {b} cont t next s' made' now' h' b' f' room' is looping moves counts no_fault le_room script_is last_in =
-    let going = subst (λ (r : Played). Going script first s0 whole r s now.count h0 b0 h b) is looping.going in
+    let going = subst (λ (r : Played). Going s0 whole r s (IsTold script first h0 b0 now.count h b)) is looping.going in
     record {
-      going = moves_on script first s0 whole cont s s' t next now now' h0 b0 h b h' b' moves going;
+      going = moves_on cont s now.last s' now'.last t next (moves_to script first t next s s' now now' h b h' b' moves) (λ done. told_more script first t next s s' now now' h0 b0 h b h' b' done moves) going;
       made_is = omega (arith, looping.made_is, counts);
       script_is = script_is;
       no_fault = no_fault ∙ looping.no_fault;
@@ -74,14 +87,14 @@ moved {script} {first} {s0} {whole} {rest} {s} {made0} {made} {now} {h0} {b0} {h
 
 -- nothing is to come
 pub over : {script : Script} {first : ℕ} {s0 : State} {whole rest : Played} {s : State} {made0 made : ℕ} {now : Progress} {h0 : Option (List ℕ)} {b0 : List ℕ} {h : Option (List ℕ)} {b : List ℕ} {f0 f room0 room : ℕ}
-    → rest ≡ stop s now.last → Looping script first s0 whole rest s made0 made now h0 b0 h b f0 f room0 room → Gone script first whole s now.last now.count h0 b0 h b
+    → rest ≡ stop s now.last → Looping script first s0 whole rest s made0 made now h0 b0 h b f0 f room0 room → Gone whole s now.last (IsTold script first h0 b0 now.count h b)
 over {script} {first} {s0} {whole} {rest} {s} {made0} {made} {now} {h0} {b0} {h} {b} is looping =
-    ends script first s0 whole s now.last now.count h0 b0 h b (subst (λ (r : Played). Going script first s0 whole r s now.count h0 b0 h b) is looping.going)
+    ends (subst (λ (r : Played). Going s0 whole r s (IsTold script first h0 b0 now.count h b)) is looping.going)
 
 -- what is gone was printed
 pub printed_all : {script : Script} {first : ℕ} {whole : Played} {s : State} {last : Option TaskId} {count : ℕ} {h0 : Option (List ℕ)} {b0 : List ℕ} {h : Option (List ℕ)} {b : List ℕ} {T : Type 0} (x : T) (f0 f : ℕ)
-    → Gone script first whole s last count h0 b0 h b → f ≡ f0 → Prints {T = T} (Ok x) h0 b0 h b f0 f (lines_of script first whole.events)
-printed_all x f0 f gone no_fault = record { whole = gone.printed; no_fault = no_fault; part = tt; cause = tt; count = omega (arith, no_fault) }
+    → Gone whole s last (IsTold script first h0 b0 count h b) → f ≡ f0 → Prints {T = T} (Ok x) h0 b0 h b f0 f (lines_of script first whole.events)
+printed_all x f0 f gone no_fault = record { whole = gone.told.printed; no_fault = no_fault; part = tt; cause = tt; count = omega (arith, no_fault) }
 
 -- somebody who may move is a task of the script
 pub chosen_within : (script : Script) (s : State) (last : Option TaskId) (t : TaskId) → IsOf script s → chosen_task s last ≡ Some t → IfSome last (λ u. u.0 < length script.tasks) → t.0 < length script.tasks

@@ -1,4 +1,4 @@
--- A run that is being made and told: what is done, and what is still to come.
+-- The lines that are told of a run that is being made.
 use Rattle.std.proofs.Common.{◌≡◌, ℕ, ◌+◌, List, [], ◌∷◌, ◌++◌, length, Option, Some, None, refl, sym, ap, ◌∙◌, subst, append_assoc, append-nil, length-append, add-zero, arith}
 use Rattle.rt_base.specs.Script.{Script}
 use Rattle.rt_base.specs.Outside.{AppendsPrefix}
@@ -7,14 +7,15 @@ use Rattle.rt_model.specs.declared.event.Event.{Event}
 use Rattle.rt_model.specs.State.{State}
 use Rattle.rt_model.specs.StateAfter.{state_after}
 use Rattle.rt_model.specs.Run.{after}
-use Rattle.rt_model.specs.Order.{Played, stop, then_play}
-use Rattle.rt_model.proofs.Runs.{after-append}
+use Rattle.rt_model.specs.Order.{Played, then_play}
 use Rattle.rt_events.specs.Entry.{entry}
 use Rattle.rt_events.specs.Line.{line_of}
 use Rattle.rt_events.specs.Journal.{lines_of}
 use Rattle.rt_policy.specs.declared.progress.Progress.{Progress}
 use Rattle.rt_policy.specs.Printing.{HandsOn}
 use Rattle.rt_policy.specs.Playing.{Moves, Stops}
+use Rattle.rt_policy.specs.Moving.{MovesTo, made_of}
+use Rattle.rt_policy.proofs.Going.{Going, with_event}
 use Rattle.rt_policy.proofs.Printed.{HandsOn-nothing, HandsOn-then, HandsOn-stopped}
 
 -- lines of events and of more events
@@ -25,41 +26,38 @@ lines_of-append script number (x ∷ xs) ys =
     ap (λ text. line_of script (entry number x) ++ text) (lines_of-append script (number + 1) xs ys ∙ ap (λ n. lines_of script (number + 1) xs ++ lines_of script n ys) next)
     ∙ sym (append_assoc (line_of script (entry number x)) (lines_of script (number + 1) xs) (lines_of script (number + length (x ∷ xs)) ys))
 
--- with an event first
-abbrev pub with_event : Event → Played → Played
-with_event e more = record more { events = e ∷ more.events }
-
--- of what is to be played, done is made and told, and rest is to come
-pub record Going (script : Script) (first : ℕ) (s0 : State) (whole rest : Played) (s : State) (count : ℕ) (h0 : Option (List ℕ)) (b0 : List ℕ) (h : Option (List ℕ)) (b : List ℕ) : Type 0 where
-  pub done : List Event
-  pub events : whole.events ≡ done ++ rest.events
-  pub state : whole.state ≡ rest.state
-  pub last : whole.last ≡ rest.last
-  pub now : s ≡ after s0 done
+-- so many events are made, and their lines are told
+pub record IsTold (script : Script) (first : ℕ) (h0 : Option (List ℕ)) (b0 : List ℕ) (count : ℕ) (h : Option (List ℕ)) (b : List ℕ) (done : List Event) : Type 0 where
   pub counted : count ≡ length done
   pub printed : HandsOn h0 b0 (lines_of script first done) h b
 
 -- at the start
-pub begins : (script : Script) (first : ℕ) (s : State) (whole : Played) (h : Option (List ℕ)) (b : List ℕ) → Going script first s whole whole s 0 h b h b
-begins script first s whole h b = record { done = []; events = refl; state = refl; last = refl; now = refl; counted = refl; printed = HandsOn-nothing h b }
+pub told_none : (script : Script) (first : ℕ) (h : Option (List ℕ)) (b : List ℕ) → IsTold script first h b 0 h b []
+told_none script first h b = record { counted = refl; printed = HandsOn-nothing h b }
 
--- an event more
-pub steps : (script : Script) (first : ℕ) (s0 : State) (whole rest more : Played) (s s' : State) (count : ℕ) (e : Event) (h0 : Option (List ℕ)) (b0 : List ℕ) (h : Option (List ℕ)) (b : List ℕ) (h' : Option (List ℕ)) (b' : List ℕ)
-    → rest ≡ with_event e more → s' ≡ state_after s e → HandsOn h b (line_of script (entry (first + count) e)) h' b'
-    → Going script first s0 whole rest s count h0 b0 h b → Going script first s0 whole more s' (count + 1) h0 b0 h' b'
-steps script first s0 whole rest more s s' count e h0 b0 h b h' b' is leaves told going =
-    let one : line_of script (entry (first + count) e) ≡ lines_of script (first + length going.done) (e ∷ []) =
-    ap (λ n. line_of script (entry (first + n) e)) going.counted ∙ sym (append-nil (line_of script (entry (first + length going.done) e))) in
-    let both : HandsOn h0 b0 (lines_of script first going.done ++ line_of script (entry (first + count) e)) h' b' =
-    HandsOn-then h0 h h' b0 b b' (lines_of script first going.done) (line_of script (entry (first + count) e)) going.printed told in
+-- where a task moves, and what is told then
+pub moves_to : (script : Script) (first : ℕ) (t : TaskId) (next : Option Event) (s s' : State) (so_far now : Progress) (h : Option (List ℕ)) (b : List ℕ) (h' : Option (List ℕ)) (b' : List ℕ)
+    → Moves script first t next s s' so_far now h b h' b' → MovesTo t next s so_far.last s' now.last
+moves_to script first t None s s' so_far now h b h' b' moves = (moves.0, ap (λ (p : Progress). p.last) moves.1)
+moves_to script first t (Some e) s s' so_far now h b h' b' moves = (moves.0, ap (λ (p : Progress). p.last) moves.1)
+
+pub told_more : (script : Script) (first : ℕ) (t : TaskId) (next : Option Event) (s s' : State) (so_far now : Progress) (h0 : Option (List ℕ)) (b0 : List ℕ) (h : Option (List ℕ)) (b : List ℕ) (h' : Option (List ℕ)) (b' : List ℕ) (done : List Event)
+    → Moves script first t next s s' so_far now h b h' b' → IsTold script first h0 b0 so_far.count h b done → IsTold script first h0 b0 now.count h' b' (done ++ made_of next)
+told_more script first t None s s' so_far now h0 b0 h b h' b' done moves told =
+    let count : now.count ≡ so_far.count = ap (λ (p : Progress). p.count) moves.1 in
     record {
-      done = going.done ++ e ∷ [];
-      events = going.events ∙ (ap (λ (r : Played). going.done ++ r.events) is ∙ sym (append_assoc going.done (e ∷ []) more.events));
-      state = going.state ∙ ap (λ (r : Played). r.state) is;
-      last = going.last ∙ ap (λ (r : Played). r.last) is;
-      now = leaves ∙ (ap (λ (t : State). state_after t e) going.now ∙ sym (after-append s0 going.done (e ∷ [])));
-      counted = omega (arith, going.counted, length-append going.done (e ∷ []));
-      printed = subst (λ (text : List ℕ). HandsOn h0 b0 text h' b') (ap (λ text. lines_of script first going.done ++ text) one ∙ sym (lines_of-append script first going.done (e ∷ []))) both;
+      counted = omega (arith, told.counted, count, length-append done []);
+      printed = subst (λ (text : List ℕ). HandsOn h0 b0 text h' b') (append-nil (lines_of script first done) ∙ ap (lines_of script first) (sym (append-nil done)))
+          (HandsOn-then h0 h h' b0 b b' (lines_of script first done) [] told.printed moves.2);
+    }
+told_more script first t (Some e) s s' so_far now h0 b0 h b h' b' done moves told =
+    let count : now.count ≡ so_far.count + 1 = ap (λ (p : Progress). p.count) moves.1 in
+    let one : line_of script (entry (first + so_far.count) e) ≡ lines_of script (first + length done) (e ∷ []) =
+    ap (λ n. line_of script (entry (first + n) e)) told.counted ∙ sym (append-nil (line_of script (entry (first + length done) e))) in
+    record {
+      counted = omega (arith, told.counted, count, length-append done (e ∷ []));
+      printed = subst (λ (text : List ℕ). HandsOn h0 b0 text h' b') (ap (λ text. lines_of script first done ++ text) one ∙ sym (lines_of-append script first done (e ∷ [])))
+          (HandsOn-then h0 h h' b0 b b' (lines_of script first done) (line_of script (entry (first + so_far.count) e)) told.printed moves.2);
     }
 
 -- some first part of these events is done, and so many they are
@@ -69,60 +67,21 @@ IsPartDone s0 s events count = (first : List Event) × (rest : List Event) × (f
 -- a fault at the next event: the sink holds a prefix of all the lines, and a first part of the events is made
 pub fails : (script : Script) (first : ℕ) (s0 : State) (whole rest more : Played) (s : State) (count : ℕ) (e : Event) (h0 : Option (List ℕ)) (b0 : List ℕ) (h : Option (List ℕ)) (b : List ℕ) (h' : Option (List ℕ))
     → rest ≡ with_event e more → AppendsPrefix h (b ++ line_of script (entry (first + count) e)) h'
-    → Going script first s0 whole rest s count h0 b0 h b → AppendsPrefix h0 (b0 ++ lines_of script first whole.events) h' × IsPartDone s0 s whole.events count
+    → Going s0 whole rest s (IsTold script first h0 b0 count h b) → AppendsPrefix h0 (b0 ++ lines_of script first whole.events) h' × IsPartDone s0 s whole.events count
 fails script first s0 whole rest more s count e h0 b0 h b h' is cut going =
     let all : whole.events ≡ going.done ++ (e ∷ more.events) = going.events ∙ ap (λ (r : Played). going.done ++ r.events) is in
-    let number : first + count ≡ first + length going.done = ap (λ n. first + n) going.counted in
+    let number : first + count ≡ first + length going.done = ap (λ n. first + n) going.told.counted in
     let text : lines_of script first going.done ++ (line_of script (entry (first + count) e) ++ lines_of script (first + length going.done + 1) more.events) ≡ lines_of script first whole.events =
     ap (λ n. lines_of script first going.done ++ (line_of script (entry n e) ++ lines_of script (first + length going.done + 1) more.events)) number
     ∙ (sym (lines_of-append script first going.done (e ∷ more.events)) ∙ ap (lines_of script first) (sym all)) in (
       subst (λ (bytes : List ℕ). AppendsPrefix h0 (b0 ++ bytes) h') text
-          (HandsOn-stopped h0 h h' b0 b (lines_of script first going.done) (line_of script (entry (first + count) e)) (lines_of script (first + length going.done + 1) more.events) going.printed cut),
-      (going.done, e ∷ more.events, sym all, going.now, going.counted),
+          (HandsOn-stopped h0 h h' b0 b (lines_of script first going.done) (line_of script (entry (first + count) e)) (lines_of script (first + length going.done + 1) more.events) going.told.printed cut),
+      (going.done, e ∷ more.events, sym all, going.now, going.told.counted),
     )
-
--- nothing is to come: all is made and told
-pub record Gone (script : Script) (first : ℕ) (whole : Played) (s : State) (last : Option TaskId) (count : ℕ) (h0 : Option (List ℕ)) (b0 : List ℕ) (h : Option (List ℕ)) (b : List ℕ) : Type 0 where
-  pub state : s ≡ whole.state
-  pub last_is : last ≡ whole.last
-  pub counted : count ≡ length whole.events
-  pub printed : HandsOn h0 b0 (lines_of script first whole.events) h b
-
-pub ends : (script : Script) (first : ℕ) (s0 : State) (whole : Played) (s : State) (last : Option TaskId) (count : ℕ) (h0 : Option (List ℕ)) (b0 : List ℕ) (h : Option (List ℕ)) (b : List ℕ)
-    → Going script first s0 whole (stop s last) s count h0 b0 h b → Gone script first whole s last count h0 b0 h b
-ends script first s0 whole s last count h0 b0 h b going =
-    let all : going.done ≡ whole.events = sym (append-nil going.done) ∙ sym going.events in
-    record {
-      state = sym going.state;
-      last_is = sym going.last;
-      counted = going.counted ∙ ap length all;
-      printed = subst (λ (es : List Event). HandsOn h0 b0 (lines_of script first es) h b) all going.printed;
-    }
-
--- a task's move, whether it has an event or not
-pub moves_on : (script : Script) (first : ℕ) (s0 : State) (whole : Played) (rest : State → Option TaskId → Played) (s s' : State) (t : TaskId) (next : Option Event) (so_far now : Progress) (h0 : Option (List ℕ)) (b0 : List ℕ) (h : Option (List ℕ)) (b : List ℕ) (h' : Option (List ℕ)) (b' : List ℕ)
-    → Moves script first t next s s' so_far now h b h' b' → Going script first s0 whole (then_play rest s so_far.last t next) s so_far.count h0 b0 h b → Going script first s0 whole (rest s' now.last) s' now.count h0 b0 h' b'
-moves_on script first s0 whole rest s s' t None so_far now h0 b0 h b h' b' moves going =
-    let same = subst (λ (r : State). Going script first s0 whole (rest r so_far.last) r so_far.count h0 b0 h b) (sym moves.0) going in
-    let told : Going script first s0 whole (rest s' so_far.last) s' so_far.count h0 b0 h' b' = record {
-      done = same.done;
-      events = same.events;
-      state = same.state;
-      last = same.last;
-      now = same.now;
-      counted = same.counted;
-      printed = subst (λ (text : List ℕ). HandsOn h0 b0 text h' b') (append-nil (lines_of script first same.done)) (HandsOn-then h0 h h' b0 b b' (lines_of script first same.done) [] same.printed moves.2);
-    } in
-    subst (λ (p : Progress). Going script first s0 whole (rest s' p.last) s' p.count h0 b0 h' b') (sym moves.1) told
-moves_on script first s0 whole rest s s' t (Some e) so_far now h0 b0 h b h' b' moves going =
-    let more = rest (state_after s e) (Some t) in
-    let stepped = steps script first s0 whole (with_event e more) more s (state_after s e) so_far.count e h0 b0 h b h' b' refl refl moves.2 going in
-    let left = subst (λ (r : State). Going script first s0 whole (rest r (Some t)) r (so_far.count + 1) h0 b0 h' b') (sym moves.0) stepped in
-    subst (λ (p : Progress). Going script first s0 whole (rest s' p.last) s' p.count h0 b0 h' b') (sym moves.1) left
 
 -- a fault at a task's move
 pub stops_at : (script : Script) (first : ℕ) (s0 : State) (whole : Played) (rest : State → Option TaskId → Played) (s s' : State) (t : TaskId) (next : Option Event) (so_far : Progress) (h0 : Option (List ℕ)) (b0 : List ℕ) (h : Option (List ℕ)) (b : List ℕ) (h' : Option (List ℕ))
-    → Stops script first next s s' so_far h b h' → Going script first s0 whole (then_play rest s so_far.last t next) s so_far.count h0 b0 h b → AppendsPrefix h0 (b0 ++ lines_of script first whole.events) h' × IsPartDone s0 s' whole.events so_far.count
+    → Stops script first next s s' so_far h b h' → Going s0 whole (then_play rest s so_far.last t next) s (IsTold script first h0 b0 so_far.count h b) → AppendsPrefix h0 (b0 ++ lines_of script first whole.events) h' × IsPartDone s0 s' whole.events so_far.count
 stops_at script first s0 whole rest s s' t None so_far h0 b0 h b h' stops going = absurd stops
 stops_at script first s0 whole rest s s' t (Some e) so_far h0 b0 h b h' stops going =
     let cut = fails script first s0 whole (with_event e (rest (state_after s e) (Some t))) (rest (state_after s e) (Some t)) s so_far.count e h0 b0 h b h' refl stops.1 going in

@@ -1,10 +1,16 @@
-use Rattle.std.proofs.Common.{◌+◌, ◌-◌, ◌≤◌, arith, vec_capacity, ap, sym, ◌∙◌}
+use Rattle.std.proofs.Common.{◌+◌, ◌-◌, ◌≤◌, ◌≡◌, arith, vec_capacity, ap, sym, ◌∙◌}
 use Rattle.rt_base.proofs.Outside.{on_err}
 use Rattle.rt_model.specs.NextEvent.{next_event}
 use Rattle.rt_model.specs.Order.{chosen}
 use Rattle.rt_core.specs.Core.{Made}
-use Rattle.rt_policy.proofs.Loops.{chosen-none, chosen-left, stopped, moved, over, printed_all, chosen_within}
+use Rattle.rt_policy.proofs.Loops.{chosen-none, chosen-left, stopped, moved, over, printed_all, chosen_within, looping_begins}
 use Rattle.rt_policy.proofs.playing.play_chosen.Goals as goal
+
+pub loop-turn-init : goal.loop-turn-init
+loop-turn-init g c =
+    let whole = chosen c.args.turns c.args.core.now.state c.args.last in
+    let all : c.args.turns - 0 ≡ c.args.turns = omega arith in
+    (rw all (looping_begins c.args.script.now c.args.first c.args.core.now.state whole c.args.core.now.made c.args.last (g.K.Sink.held c.args.out.now) c.args.buf.now.items (g.K.Sink.faults c.args.out.now) (vec_capacity c.args.buf.now) c.requires.script c.requires.last), omega arith)
 
 pub returns-in_default-clause-prints : goal.returns-in_default-clause-prints
 returns-in_default-clause-prints g c =
@@ -19,7 +25,7 @@ returns-in_default-clause-state g c =
 pub returns-in_default-clause-count : goal.returns-in_default-clause-count
 returns-in_default-clause-count g c =
     let nobody = chosen-none (c.args.turns - c.loop-turn._turn) c.loop-turn.core.state c.loop-turn.now.last (sym c.pick_next.ensures ∙ c.in_default.is) in
-    (over nobody c.loop-turn.invariant.0).counted
+    (over nobody c.loop-turn.invariant.0).told.counted
 
 pub returns-in_err-now-clause-prints : goal.returns-in_err-now-clause-prints
 returns-in_err-now-clause-prints g c =

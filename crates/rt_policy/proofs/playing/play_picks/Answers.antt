@@ -1,11 +1,16 @@
-use Rattle.std.proofs.Common.{◌+◌, ◌≤◌, suc, drop, get_or, add-one, arith, vec_capacity, ap}
+use Rattle.std.proofs.Common.{◌+◌, ◌≤◌, None, suc, drop, get_or, add-one, arith, vec_capacity, ap}
 use Rattle.rt_base.specs.declared.id.TaskId.{TaskId}
 use Rattle.rt_base.proofs.Outside.{on_err}
 use Rattle.rt_model.specs.NextEvent.{next_event}
 use Rattle.rt_model.specs.Order.{picked}
 use Rattle.rt_core.specs.Core.{Made}
-use Rattle.rt_policy.proofs.Loops.{picked-drop, stopped, moved}
+use Rattle.rt_policy.proofs.Loops.{picked-drop, stopped, moved, looping_begins}
 use Rattle.rt_policy.proofs.playing.play_picks.Goals as goal
+
+pub loop-t-init : goal.loop-t-init
+loop-t-init g c =
+    let whole = picked c.picks-t-items.result.now c.args.core.now.state None in
+    (looping_begins c.args.script.now (c.made-first.result + 1) c.args.core.now.state whole c.args.core.now.made None (g.K.Sink.held c.args.out.now) c.args.buf.now.items (g.K.Sink.faults c.args.out.now) (vec_capacity c.args.buf.now) c.requires.script tt, omega arith)
 
 pub returns-in_err-now-clause-prints : goal.returns-in_err-now-clause-prints
 returns-in_err-now-clause-prints g c =

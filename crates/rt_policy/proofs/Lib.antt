@@ -6,3 +6,6 @@ pub mod Reported
 pub mod Turns
 pub mod Counted
 pub mod CountLoop
+pub mod Drawing
+pub mod GeneratedParts
+pub mod Buildable

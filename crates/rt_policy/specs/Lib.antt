@@ -3,8 +3,11 @@ pub mod Printing
 pub mod Playing
 pub mod Moving
 pub mod Counts
+pub mod Draws
+pub mod Generator
 pub use Rattle.rt_base.specs.Outside
 pub use Rattle.rt_base.specs.Script
+pub use Rattle.rt_script.specs.Building
 pub use Rattle.rt_model.specs.State
 pub use Rattle.rt_model.specs.NextEvent
 pub use Rattle.rt_model.specs.StateAfter

@@ -1,11 +1,15 @@
 //! What chooses and plays a run: the picks of a script and then the stated order, with its journal and report written
-//! to a sink, or with its events counted.
+//! to a sink, or with its events counted. And large scripts, each of which a number gives.
 #![tactic(auto)]
 
+mod blocks;
 mod counting;
 #[cfg(test)]
 mod counting_tests;
 mod counts;
+mod draws;
+mod generator;
+mod locks;
 mod order;
 mod playing;
 mod printing;
@@ -16,6 +20,7 @@ mod reporting;
 
 pub use counting::count_replay;
 pub use counts::Counts;
+pub use generator::generate;
 pub use order::pick_next;
 pub use playing::{finish, run_picks};
 pub use reporting::write_report;

@@ -9,6 +9,8 @@ mod counting_tests;
 mod counts;
 mod draws;
 mod generator;
+#[cfg(test)]
+mod generator_tests;
 mod locks;
 mod order;
 mod playing;

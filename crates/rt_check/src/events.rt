@@ -21,7 +21,7 @@ use crate::why::{Why, Wrong};
 use rt_base::TaskId;
 use rt_base::limits::LINE_LIMIT;
 use rt_core::Core;
-use rt_events::{entry_of, read_line, write_end_line, write_line};
+use rt_events::{read_line, write_end_line, write_event};
 use rt_model::Event;
 use rt_script::Script;
 
@@ -74,7 +74,7 @@ fn after_line<'a>(
     ensures capacity { vec_capacity buf.old ≤ vec_capacity buf.new }
 {
     buf.clear();
-    write_line(script, &entry_of(core.made() + 1, e), buf);
+    write_event(script, core.made() + 1, e, buf);
     after_front(text, buf.as_slice())
 }
 

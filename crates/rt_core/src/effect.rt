@@ -1,6 +1,8 @@
 // What an event leaves of the shared parts and of its own thread.
 ghost use Rattle.std.specs.Prelude.{◌≡◌, ◌≢◌, ◌<◌, length, Some};
-ghost use Rattle.rt_model.specs.declared.event_kind.EventKind.TheVariants.{WalkEnd, Restart, Own, State, Sched, Wake, SetPrio};
+ghost use Rattle.rt_model.specs.declared.event_kind.EventKind.TheVariants.{WalkEnd, Restart, Own};
+ghost use Rattle.rt_model.specs.declared.event_kind.EventKind.TheVariants.{State, Sched, Wake};
+ghost use Rattle.rt_model.specs.declared.event_kind.EventKind.TheVariants.{SetPrio};
 ghost use Rattle.rt_model.specs.StateAfter.{shared_after, thread_after};
 ghost use Rattle.rt_core.specs.Fits.{Fits, thread_moved};
 

@@ -3,7 +3,8 @@ ghost use Rattle.rt_model.specs.Order.{in_walk};
 ghost use Rattle.rt_model.specs.declared.phase.Phase.TheVariants.{Start};
 ghost use Rattle.rt_model.specs.Choice.{called_lock};
 ghost use Rattle.rt_model.specs.Parts.{TaskPart, call_of};
-ghost use Rattle.rt_model.specs.CanMove.{has_first, can_go_on, can_in, can_move, IsOther, IsUninvolved};
+ghost use Rattle.rt_model.specs.CanMove.{has_first, can_go_on, can_in, can_move};
+ghost use Rattle.rt_model.specs.CanMove.{IsOther, target_of, IsUninvolved};
 ghost use Rattle.rt_model.specs.CallKinds.{IsServed};
 ghost use Rattle.rt_core.specs.Core.{with_threads};
 ghost use Rattle.rt_core.specs.Enabled.{IsKeptAt, AreKept};
@@ -12,7 +13,7 @@ use crate::task_set::TaskSet;
 use rt_base::limits::MAX_TASKS;
 use rt_base::{Call, TaskId, TaskState};
 use rt_choice::{is_awake, own_answer};
-use rt_model::{Event, Phase};
+use rt_model::{Event, EventKind, Phase};
 use rt_parts::{Shared, Thread};
 use rt_tasks::TaskCell;
 
@@ -45,23 +46,23 @@ impl Enabled {
     pub fn look_after(&mut self, shared: &Shared, threads: &[Thread], e: &Event)
         requires tasks { length shared.now.tasks ≡ length threads.now }
         requires task { e.now.task.0 < length threads.now }
-        requires owner { IfSome e.now.owner (λ t. t.0 < length threads.now) }
-        requires other { IfSome e.now.other (λ t. t.0 < length threads.now) }
         requires woken { IfSome e.now.woken (λ t. t.0 < length threads.now) }
-        ensures { (u : TaskId) → u.0 < MAX_TASKS → (IsUninvolved u e.now → IsKeptAt (with_threads shared.now threads.now) self.old u.0)
+        requires target { IfSome (target_of e.now) (λ t. t.0 < length threads.now) }
+        ensures { (u : TaskId) → u.0 < MAX_TASKS
+            → (IsUninvolved u e.now → IsKeptAt (with_threads shared.now threads.now) self.old u.0)
             → IsKeptAt (with_threads shared.now threads.now) self.new u.0 }
     {
         self.look_at(shared, threads, e.task);
-        self.look_at_named(shared, threads, e.owner);
-        self.look_at_named(shared, threads, e.other);
         self.look_at_named(shared, threads, e.woken);
+        self.look_at_named(shared, threads, wakeup_target(e));
     }
 
     // Looks anew at a task, where one is named.
     fn look_at_named(&mut self, shared: &Shared, threads: &[Thread], t: Option<TaskId>)
         requires tasks { length shared.now.tasks ≡ length threads.now }
         requires task { IfSome t (λ t. t.0 < length threads.now) }
-        ensures { (u : TaskId) → u.0 < MAX_TASKS → (IsOther u t → IsKeptAt (with_threads shared.now threads.now) self.old u.0)
+        ensures { (u : TaskId) → u.0 < MAX_TASKS
+            → (IsOther u t → IsKeptAt (with_threads shared.now threads.now) self.old u.0)
             → IsKeptAt (with_threads shared.now threads.now) self.new u.0 }
     {
         if let Some(t) = t {
@@ -73,13 +74,24 @@ impl Enabled {
     fn look_at(&mut self, shared: &Shared, threads: &[Thread], t: TaskId)
         requires tasks { length shared.now.tasks ≡ length threads.now }
         requires task { t.0 < length threads.now }
-        ensures { (u : TaskId) → u.0 < MAX_TASKS → (nat_eq t.0 u.0 ≡ false → IsKeptAt (with_threads shared.now threads.now) self.old u.0)
+        ensures { (u : TaskId) → u.0 < MAX_TASKS
+            → (nat_eq t.0 u.0 ≡ false → IsKeptAt (with_threads shared.now threads.now) self.old u.0)
             → IsKeptAt (with_threads shared.now threads.now) self.new u.0 }
     {
         let thread = &threads[t.0 as usize];
         let enabled = can_move(thread, shared.task(t));
         self.all.put(t, enabled);
         self.walking.put(t, is_walking(thread, enabled));
+    }
+}
+
+// Whom a wakeup or a signal goes to.
+fn wakeup_target(e: &Event) -> Option<TaskId>
+    ensures { result ≡ target_of e.now }
+{
+    match e.kind {
+        EventKind::Wake => e.other,
+        _ => None,
     }
 }
 

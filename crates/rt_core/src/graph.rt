@@ -182,7 +182,8 @@ fn better(core: &Core, best: Prio, near: &TaskSet, u: TaskId) -> Prio
     requires task { u.0 < length core.now.state.threads }
     ensures best { result ≤ best }
     ensures below { has near.now u.0 ≡ true → result ≤ (task_part core.now.state u).own }
-    ensures one { (result ≡ best) ⊎ ((has near.now u.0 ≡ true) × (result ≡ (task_part core.now.state u).own)) }
+    ensures one { (result ≡ best)
+        ⊎ ((has near.now u.0 ≡ true) × (result ≡ (task_part core.now.state u).own)) }
 {
     let own = core.cell(u).own();
     if near.contains(u) && own < best {

@@ -1,10 +1,12 @@
-ghost use Rattle.std.specs.Prelude.{◌≡◌, ◌<◌, ◌≤◌, ◌+◌, ◌^◌, ◌++◌, ℕ, length, false, All, None, Some, IfOk, IfSome, vec_len, vec_capacity};
+ghost use Rattle.std.specs.Prelude.{◌≡◌, ◌<◌, ◌≤◌, ◌+◌, ◌^◌, ◌++◌, ℕ, length, false, All, None};
+ghost use Rattle.std.specs.Prelude.{Some, IfOk, IfSome, vec_len, vec_capacity};
 ghost use Rattle.std.specs.List.{count_by};
 ghost use Rattle.rt_base.specs.Script.{Script, IsScript};
 ghost use Rattle.rt_model.specs.declared.obj.Obj.{Obj};
 ghost use Rattle.rt_model.specs.Parts.{call_of, effective_of};
 ghost use Rattle.rt_model.specs.CallKinds.{IsServed};
-ghost use Rattle.rt_model.specs.State.{State, start, shared, object, owner_part, reader_part, task_part, thread_part};
+ghost use Rattle.rt_model.specs.State.{State, start, shared, object, owner_part, reader_part};
+ghost use Rattle.rt_model.specs.State.{task_part, thread_part};
 ghost use Rattle.rt_model.specs.NextEvent.{next_event};
 ghost use Rattle.rt_model.specs.StateAfter.{state_after};
 ghost use Rattle.rt_model.specs.Footprint.{touches};
@@ -17,7 +19,8 @@ ghost use Rattle.rt_model.specs.laws.Wakeups.{flat_state};
 ghost use Rattle.rt_model.specs.laws.Local.{AgreeOn};
 ghost use Rattle.rt_events.specs.Entry.{entry};
 ghost use Rattle.rt_events.specs.WellFormed.{IsWellFormed};
-ghost use Rattle.rt_core.specs.Report.{IsNoteWithin, note_of, call_note, report_line_of, task_report, lock_report};
+ghost use Rattle.rt_core.specs.Report.{IsNoteWithin, note_of, call_note, report_line_of};
+ghost use Rattle.rt_core.specs.Report.{task_report, lock_report};
 ghost use Rattle.rt_core.specs.Core.{Made};
 
 use crate::effect::make;
@@ -57,7 +60,8 @@ impl Model for Core {
 
     ghost view = { λ c. record { state = with_threads c.shared c.threads.items; made = c.made } };
 
-    ghost invariant = { λ c. IsLawful (with_threads c.shared c.threads.items) c.made × AreKept (with_threads c.shared c.threads.items) c.enabled };
+    ghost invariant = { λ c. IsLawful (with_threads c.shared c.threads.items) c.made
+        × AreKept (with_threads c.shared c.threads.items) c.enabled };
 }
 
 impl Core {
@@ -111,8 +115,8 @@ impl Core {
         self.shared.task(t)
     }
 
-    /// The state of a task as it would be if spinlocks and rwlocks didn't put it to sleep: the saved one while
-    /// it waits for a spinning kind, in its queue or for its readers, else its state.
+    /// The state of a task as it would be if spinlocks and rwlocks didn't put it to sleep: the saved one
+    /// while it waits for a spinning kind, in its queue or for its readers, else its state.
     pub fn flat_state(&self, t: TaskId) -> TaskState
         requires { t.0 < length self.now.state.threads }
         ensures { result ≡ flat_state (thread_part self.now.state t) (task_part self.now.state t) }
@@ -259,16 +263,20 @@ impl Core {
         }
     }
 
-    /// The one event that a task may make now. It depends on nothing but what it touches, and its entry is well formed
-    /// for the core's script. Where there is none, that depends on the task and its thread alone.
+    /// The one event that a task may make now. It depends on nothing but what it touches, and its entry is
+    /// well formed for the core's script. Where there is none, that depends on the task and its thread alone.
     pub fn next(&self, t: TaskId) -> Option<Event>
         requires { t.0 < length self.now.state.threads }
         ensures event { result ≡ next_event self.now.state t }
         ensures task { IfSome result (λ e. e.task ≡ t) }
-        ensures within { IfSome result (IsWithin (length self.now.state.threads) (length self.now.state.locks)) }
-        ensures told { IfSome result (λ e. (script : Script) (number : ℕ) → IsOf script self.now.state → number < 2 ^ 64 → IsWellFormed script (entry number e)) }
-        ensures local { IfSome result (λ e. (s : State) → AgreeOn e self.now.state s → next_event s t ≡ Some e) }
-        ensures none { result ≡ None → (s : State) → thread_part s t ≡ thread_part self.now.state t → task_part s t ≡ task_part self.now.state t → next_event s t ≡ None }
+        ensures within { IfSome result
+            (IsWithin (length self.now.state.threads) (length self.now.state.locks)) }
+        ensures told { IfSome result (λ e. (script : Script) (number : ℕ)
+            → IsOf script self.now.state → number < 2 ^ 64 → IsWellFormed script (entry number e)) }
+        ensures local { IfSome result (λ e. (s : State)
+            → AgreeOn e self.now.state s → next_event s t ≡ Some e) }
+        ensures none { result ≡ None → (s : State) → thread_part s t ≡ thread_part self.now.state t
+            → task_part s t ≡ task_part self.now.state t → next_event s t ≡ None }
     {
         let thread = self.thread(t);
         if let Phase::Confirm(path) = thread.phase() {
@@ -285,13 +293,17 @@ impl Core {
         ensures made { self.new.made ≡ self.old.made + 1 }
 
         // What the event leaves of what it touches depends on nothing else, and all else stays.
-        ensures local { (s : State) → SameSize self.old.state s → AgreeOn e.now self.old.state s → AgreeOn e.now self.new.state (state_after s e.now) }
-        ensures frame { (o : Obj) → touches e.now o ≡ false → object self.new.state o ≡ object self.old.state o }
+        ensures local { (s : State) → SameSize self.old.state s → AgreeOn e.now self.old.state s
+            → AgreeOn e.now self.new.state (state_after s e.now) }
+        ensures frame { (o : Obj) → touches e.now o ≡ false
+            → object self.new.state o ≡ object self.old.state o }
 
-        // The core is still one of its script, and lawful, with each task on the processor of the cells that it has.
+        // The core is still one of its script, and lawful, with each task on the processor of the cells
+        // that it has.
         ensures script { (script : Script) → IsOf script self.old.state → IsOf script self.new.state }
         ensures lawful { IsLawful self.new.state self.new.made }
-        ensures cells { (script : Script) → IsScript script → IsOf script self.old.state → CellsLaw script self.old.state → CellsLaw script self.new.state }
+        ensures cells { (script : Script) → IsScript script → IsOf script self.old.state
+            → CellsLaw script self.old.state → CellsLaw script self.new.state }
     {
         make(&mut self.shared, &mut self.threads[e.task.0 as usize], e);
         self.enabled
@@ -301,7 +313,8 @@ impl Core {
 }
 
 impl Core {
-    /// Writes line i of the report, counted from 0, the tasks before the locks. It is shorter than `LINE_LIMIT`.
+    /// Writes line i of the report, counted from 0, the tasks before the locks. It is shorter than
+    /// `LINE_LIMIT`.
     pub fn report_line(&self, script: &Script, i: u32, out: &mut Vec<u8>)
         requires script { IsOf script.now self.now.state }
         requires line { i < length script.now.tasks + length script.now.locks }

@@ -209,8 +209,8 @@ fn a_signal_ends_a_wait(rt: HostRuntime) -> Result<(), Fail> {
     reports(&rt, rt.alloc(), &script, &core, lines.as_slice())
 }
 
-// The state as it would be if spinlocks put nobody to sleep. A wakeup in the wait for a spinlock ends the sleep
-// that was set before; a wait for a mutex is a sleep of its own in the place of that one.
+// The state as it would be if spinlocks put nobody to sleep. A wakeup in the wait for a spinlock ends the
+// sleep that was set before; a wait for a mutex is a sleep of its own in the place of that one.
 #[test]
 fn a_spinlock_leaves_the_flat_state(rt: HostRuntime) -> Result<(), Fail> {
     let (runs, sleep) = (TaskState::Running, TaskState::Interruptible);
@@ -242,8 +242,8 @@ fn a_spinlock_leaves_the_flat_state(rt: HostRuntime) -> Result<(), Fail> {
     Ok(())
 }
 
-// So does an `rwlock_t` whose writer sleeps for readers; of an `rw_semaphore` that is a sleep of its own in the place
-// of the one that was set before. The late wake of the last reader goes to the writer.
+// So does an `rwlock_t` whose writer sleeps for readers; of an `rw_semaphore` that is a sleep of its own in
+// the place of the one that was set before. The late wake of the last reader goes to the writer.
 #[test]
 fn a_writer_leaves_the_flat_state(rt: HostRuntime) -> Result<(), Fail> {
     let (runs, sleep) = (TaskState::Running, TaskState::Interruptible);

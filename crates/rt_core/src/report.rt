@@ -1,8 +1,11 @@
-ghost use Rattle.std.specs.Prelude.{◌≡◌, ◌+◌, ◌*◌, ◌^◌, ◌<◌, ◌≤◌, ◌∷◌, ◌++◌, length, map, vec_len, All, IfSome};
+ghost use Rattle.std.specs.Prelude.{◌≡◌, ◌+◌, ◌*◌, ◌^◌, ◌<◌, ◌≤◌, ◌∷◌, ◌++◌, length, map, vec_len};
+ghost use Rattle.std.specs.Prelude.{All, IfSome};
 ghost use Rattle.std.specs.Vec.{vec_capacity};
 ghost use Rattle.rt_model.specs.Parts.{effective_of};
 ghost use Rattle.rt_events.specs.Words.{spaced};
-ghost use Rattle.rt_core.specs.Report.{bit_word, priority_words, progress_words, note_words, note_key, task_line_of, owner_words, reader_part_words, row_word, lock_line_of, IsNoteWithin};
+ghost use Rattle.rt_core.specs.Report.{bit_word, priority_words, progress_words, note_words};
+ghost use Rattle.rt_core.specs.Report.{note_key, task_line_of, owner_words, reader_part_words};
+ghost use Rattle.rt_core.specs.Report.{row_word, lock_line_of, IsNoteWithin};
 
 use crate::note::Note;
 use rt_base::limits::{LINE_LIMIT, MAX_PRIO, MAX_TASKS};

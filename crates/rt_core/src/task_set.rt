@@ -51,7 +51,8 @@ impl TaskSet {
     /// A task is in the set from now on, or isn't.
     pub fn put(&mut self, t: TaskId, member: bool)
         requires { t.0 < MAX_TASKS }
-        ensures { (u : ℕ) → u < MAX_TASKS → has self.new u ≡ (if nat_eq t.0 u then member else has self.old u) }
+        ensures { (u : ℕ) → u < MAX_TASKS
+            → has self.new u ≡ (if nat_eq t.0 u then member else has self.old u) }
     {
         let bit = 1 << t.0;
         if member {

@@ -1,5 +1,6 @@
 pub mod Words
 pub mod Entry
+pub mod Told
 pub mod WellFormed
 pub mod Line
 pub mod Journal

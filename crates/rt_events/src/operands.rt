@@ -1,13 +1,14 @@
 // What the line of each kind tells besides who did what.
 ghost use Rattle.std.specs.Prelude.{◌≡◌, ◌+◌, ◌<◌, ◌≤◌, ◌∷◌, ◌++◌, length, flat_map, vec_len, All, IfSome};
 ghost use Rattle.std.specs.Vec.{vec_capacity};
+ghost use Rattle.rt_events.specs.Told.{as_entry};
 ghost use Rattle.rt_events.specs.Words.{spaced};
 ghost use Rattle.rt_events.specs.Line.{lock_words, task_words, wakes_words, reader_words, link_words, operands};
 ghost use Rattle.rt_events.specs.WellFormed.{IsTaskIn, IsLockIn, IsLinkIn, IsNamedIn};
 
 use crate::appending::{push_number, push_word};
-use crate::entry::Entry;
 use crate::state_numbers::state_numbered;
+use crate::told::Told;
 use crate::words::{WORD_ROOM, push_lock, push_task, push_task_or_dash};
 use rt_base::limits::MAX_TASKS;
 use rt_base::{LockId, Path, TaskId};
@@ -21,10 +22,10 @@ const LINK_ROOM: usize = 38;
 pub const OPERANDS_ROOM: usize = MAX_TASKS * LINK_ROOM;
 
 /// Appends what the kind tells.
-pub fn push_operands(script: &Script, n: &Entry, out: &mut Vec<u8>)
-    requires named { IsNamedIn script.now n.now }
+pub(crate) fn push_operands(script: &Script, n: &Told, out: &mut Vec<u8>)
+    requires named { IsNamedIn script.now (as_entry n.now) }
     requires room { vec_len out.old + OPERANDS_ROOM ≤ vec_capacity out.old }
-    ensures text { out.new.items ≡ out.old.items ++ spaced (operands script.now n.now.kind n.now) }
+    ensures text { out.new.items ≡ out.old.items ++ spaced (operands script.now n.now.kind (as_entry n.now)) }
     ensures grows { vec_len out.new ≤ vec_len out.old + OPERANDS_ROOM }
     ensures capacity { vec_capacity out.old ≤ vec_capacity out.new }
 {
@@ -38,7 +39,7 @@ pub fn push_operands(script: &Script, n: &Entry, out: &mut Vec<u8>)
             push_other(script, n.other, out);
             push_lock_operand(script, n.lock, out);
         }
-        EventKind::Cycle => push_path(script, &n.path, out),
+        EventKind::Cycle => push_path(script, n.path, out),
         EventKind::Give | EventKind::WWake => {
             push_lock_operand(script, n.lock, out);
             push_task_or_dash(script, n.woken, out);

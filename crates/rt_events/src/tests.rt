@@ -98,6 +98,9 @@ fn tells(rt: &impl Abort, script: &Script, e: &Event, want: &str, out: &mut Vec<
     write_line(script, &entry, out);
     assert_eq!(rt; out.as_slice(), want.as_bytes());
     out.clear();
+    write_event(script, 7, e, out);
+    assert_eq!(rt; out.as_slice(), want.as_bytes());
+    out.clear();
 }
 
 #[test]

@@ -19,8 +19,9 @@ fn wake_text(value: u8) -> &'static str
     if value == 1 { "signal" } else { "wake" }
 }
 
-// The word for a kind of event that carries this number.
-pub(crate) fn kind_text(kind: EventKind, value: u8) -> &'static str
+/// The word of a kind of event in a journal, where the event carries this number: a wakeup that carries 1
+/// is a signal's.
+pub fn kind_text(kind: EventKind, value: u8) -> &'static str
     ensures word { result.now ≡ kind_word kind value }
     ensures short { length result.now ≤ 16 }
 {
@@ -53,8 +54,8 @@ pub(crate) fn kind_text(kind: EventKind, value: u8) -> &'static str
     }
 }
 
-// The word for an answer.
-pub(crate) fn reply_text(reply: Reply) -> &'static str
+/// The word of an answer in a journal, as behind the arrow of its line.
+pub fn reply_text(reply: Reply) -> &'static str
     ensures word { result.now ≡ reply_word reply }
     ensures short { length result.now ≤ 16 }
 {

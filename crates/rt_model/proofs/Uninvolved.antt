@@ -1,7 +1,7 @@
--- A task that an event doesn't involve has a next event where it had one, and walks as it did. A cycle may leave it another kept
--- top, as the owner of the lock, but that tells nothing of its next event.
+-- A task that an event doesn't involve has a next event where it had one, and walks as it did. The event may leave it another kept
+-- top, as the owner of the lock, another key, or another priority, but these tell nothing of its next event.
 use Rattle.std.proofs.Common.{◌≡◌, ℕ, zero, suc, Bool, true, false, cond, ◌||◌, List, refl, sym, ap, ◌∙◌, Option, Some, None, unwrap_or}
-use Rattle.std.specs.Prelude.{slice_get, nat_eq, is_some, ◌&&◌}
+use Rattle.std.specs.Prelude.{slice_get, nat_eq, is_some, ◌&&◌, IfSome}
 use Rattle.rt_base.specs.declared.call.Call.{Call}
 use Rattle.rt_base.specs.declared.call.Call.TheVariants as calls
 use Rattle.rt_base.specs.declared.id.LockId.{LockId}
@@ -14,7 +14,8 @@ use Rattle.rt_model.specs.declared.phase.Phase.TheVariants as phases
 use Rattle.rt_model.specs.Parts.{OwnerPart, TaskPart, ThreadPart, call_of}
 use Rattle.rt_model.specs.Rows.{top_key, top_changed}
 use Rattle.rt_model.specs.State.{State, shared, no_task, task_part, thread_part}
-use Rattle.rt_model.specs.steps.Task.{with_top, runs, is_interruptible}
+use Rattle.rt_model.specs.steps.Chain.{rekeyed}
+use Rattle.rt_model.specs.steps.Task.{with_top, with_own, runs, is_interruptible}
 use Rattle.rt_model.specs.Effect.{Touched, Around, around}
 use Rattle.rt_model.specs.Rules.{touched, effect}
 use Rattle.rt_model.specs.Choice.{called_lock}
@@ -23,7 +24,7 @@ use Rattle.rt_model.specs.events.Acquire.{unowned, busy_touched}
 use Rattle.rt_model.specs.events.Readers.{where_slept}
 use Rattle.rt_model.specs.events.Wait.{is_interrupted, is_awake}
 use Rattle.rt_model.specs.StateAfter.{at_task, effect_in, lock_left, state_after}
-use Rattle.rt_model.specs.CanMove.{has_first, can_go_on, can_in, can_at, can_move, IsOther, IsUninvolved}
+use Rattle.rt_model.specs.CanMove.{has_first, can_go_on, can_in, can_at, can_move, IsOther, target_at, IsUninvolved}
 use Rattle.rt_model.specs.Run.{is_enabled}
 use Rattle.rt_model.specs.Order.{in_walk, is_walking}
 use Rattle.rt_model.proofs.Lists.{update-other}
@@ -82,7 +83,6 @@ owner-moves _ e th thread found lock task = refl
 
 record IsNoSlot (u : TaskId) (named : Touched) : Type 0 where
   own : IsOther u named.own
-  other : IsOther u named.other
   woken : IsOther u named.woken
 
 unowned-other : (u t : TaskId) (owner : Option TaskId) → nat_eq t.0 u.0 ≡ false → IsOther u (unowned t owner)
@@ -90,35 +90,56 @@ unowned-other u t None ne = ne
 unowned-other u t (Some o) ne = tt
 
 busy-other : (value : ℕ) (u : TaskId) (e : Event) → nat_eq e.task.0 u.0 ≡ false → IsNoSlot u (busy_touched value e)
-busy-other zero u e ne = record { own = unowned-other u e.task e.owner ne; other = tt; woken = tt }
-busy-other (suc n) u e ne = record { own = tt; other = tt; woken = tt }
+busy-other zero u e ne = record { own = unowned-other u e.task e.owner ne; woken = tt }
+busy-other (suc n) u e ne = record { own = tt; woken = tt }
 
 slept-other : (u t : TaskId) (owner : Option TaskId) → nat_eq t.0 u.0 ≡ false → IsOther u (where_slept t owner)
 slept-other u t None ne = tt
 slept-other u t (Some o) ne = ne
 
 slots : (kind : EventKind) (u : TaskId) (e : Event) → IsUninvolved u e → IsNoSlot u (touched kind e)
-slots kinds.Take u e un = record { own = un.task; other = tt; woken = tt }
+slots kinds.Take u e un = record { own = un.task; woken = tt }
 slots kinds.Busy u e un = busy-other e.value u e un.task
-slots kinds.Wait u e un = record { own = un.task; other = tt; woken = tt }
-slots kinds.Again u e un = record { own = un.task; other = tt; woken = tt }
-slots kinds.Leave u e un = record { own = un.task; other = tt; woken = tt }
-slots kinds.Give u e un = record { own = un.task; other = tt; woken = un.woken }
-slots kinds.Walk u e un = record { own = tt; other = un.other; woken = un.woken }
-slots kinds.Cycle u e un = record { own = un.task; other = tt; woken = tt }
-slots kinds.WalkEnd u e un = record { own = tt; other = un.other; woken = tt }
-slots kinds.WTake u e un = record { own = slept-other u e.task e.owner un.task; other = tt; woken = tt }
-slots kinds.WWake u e un = record { own = tt; other = tt; woken = un.woken }
-slots kinds.WSleep u e un = record { own = un.task; other = tt; woken = tt }
-slots kinds.State u e un = record { own = un.task; other = tt; woken = tt }
-slots kinds.Sched u e un = record { own = un.task; other = tt; woken = tt }
-slots kinds.Wake u e un = record { own = tt; other = un.other; woken = tt }
-slots kinds.SetPrio u e un = record { own = tt; other = un.other; woken = tt }
-slots _ u e un = record { own = tt; other = tt; woken = tt }
+slots kinds.Wait u e un = record { own = un.task; woken = tt }
+slots kinds.Again u e un = record { own = un.task; woken = tt }
+slots kinds.Leave u e un = record { own = un.task; woken = tt }
+slots kinds.Give u e un = record { own = un.task; woken = un.woken }
+slots kinds.Walk u e un = record { own = tt; woken = un.woken }
+slots kinds.Cycle u e un = record { own = un.task; woken = tt }
+slots kinds.WalkEnd u e un = record { own = tt; woken = tt }
+slots kinds.WTake u e un = record { own = slept-other u e.task e.owner un.task; woken = tt }
+slots kinds.WWake u e un = record { own = tt; woken = un.woken }
+slots kinds.WSleep u e un = record { own = un.task; woken = tt }
+slots kinds.State u e un = record { own = un.task; woken = tt }
+slots kinds.Sched u e un = record { own = un.task; woken = tt }
+slots kinds.Wake u e un = record { own = tt; woken = tt }
+slots kinds.SetPrio u e un = record { own = tt; woken = tt }
+slots _ u e un = record { own = tt; woken = tt }
+
+-- whoever a wakeup or a signal goes to is the other task of its event
+pub target-there : (P : TaskId → Type 0) (kind : EventKind) (e : Event) → IfSome e.other P → IfSome (target_at kind e) P
+target-there P kinds.Wake e there = there
+target-there P _ e there = tt
 
 apart : (xs : List TaskPart) (named : Option TaskId) (u : TaskId) (f : TaskPart → TaskPart) → IsOther u named → slice_get (at_task xs named f) u.0 ≡ slice_get xs u.0
 apart xs None u f is = refl
 apart xs (Some v) u f is = update-other xs v.0 u.0 f (λ same. other_number v.0 u.0 is same)
+
+-- of another task a walk changes the key, and setprio the priority; a wakeup and a signal name it
+other-moves : (kind : EventKind) (e : Event) (th thread : ThreadPart) (found : Around) (lock : OwnerPart) (xs : List TaskPart) (u : TaskId) → IsOther u (target_at kind e)
+    → can_move thread (unwrap_or (slice_get (at_task xs (touched kind e).other ((effect kind e th found).other lock)) u.0) no_task) ≡ can_move thread (unwrap_or (slice_get xs u.0) no_task)
+other-moves kinds.Wake e th thread found lock xs u is = ap (λ (o : Option TaskPart). can_move thread (unwrap_or o no_task)) (apart xs e.other u ((effect kinds.Wake e th found).other lock) is)
+other-moves kinds.Walk e th thread found lock xs u is =
+    slot-keeps (λ task. can_move thread task ≡ can_move thread (unwrap_or (slice_get xs u.0) no_task)) xs e.other u rekeyed refl
+    (λ task was. same-at thread task (rekeyed task) (call_of thread) refl refl ∙ was)
+other-moves kinds.Busy e th thread found lock xs u is =
+    slot-keeps (λ task. can_move thread task ≡ can_move thread (unwrap_or (slice_get xs u.0) no_task)) xs (busy_touched e.value e).other u (λ task. task) refl (λ task was. was)
+other-moves kinds.WalkEnd e th thread found lock xs u is =
+    slot-keeps (λ task. can_move thread task ≡ can_move thread (unwrap_or (slice_get xs u.0) no_task)) xs e.other u (λ task. task) refl (λ task was. was)
+other-moves kinds.SetPrio e th thread found lock xs u is =
+    slot-keeps (λ task. can_move thread task ≡ can_move thread (unwrap_or (slice_get xs u.0) no_task)) xs e.other u (with_own e.value) refl
+    (λ task was. same-at thread task (with_own e.value task) (call_of thread) refl refl ∙ was)
+other-moves _ e th thread found lock xs u is = refl
 
 -- what tells of a next event stays as it was
 uninvolved-moves : (s : State) (e : Event) (u : TaskId) (thread : ThreadPart) → IsUninvolved u e → can_move thread (task_part (state_after s e) u) ≡ can_move thread (task_part s u)
@@ -133,7 +154,8 @@ uninvolved-moves s e u thread un =
     let other = at_task owner named.other (f.other lock) in
     let moves : Option TaskPart → Bool = λ (o : Option TaskPart). can_move thread (unwrap_or o no_task) in
     let before : moves (slice_get own u.0) ≡ moves (slice_get s.tasks u.0) = ap moves (apart s.tasks named.own u (f.own lock) none.own) in
-    ap moves (apart other named.woken u (f.woken lock) none.woken ∙ apart owner named.other u (f.other lock) none.other)
+    ap moves (apart other named.woken u (f.woken lock) none.woken)
+    ∙ other-moves e.kind e th thread (around (shared s) named) lock owner u un.target
     ∙ slot-keeps (λ task. can_move thread task ≡ moves (slice_get s.tasks u.0)) own named.owner u (f.owner lock) before
     (λ task was. owner-moves e.kind e th thread (around (shared s) named) lock task ∙ was)
 

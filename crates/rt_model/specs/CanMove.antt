@@ -6,6 +6,8 @@ use Rattle.rt_base.specs.declared.call.Call.TheVariants as calls
 use Rattle.rt_base.specs.declared.id.LockId.{LockId}
 use Rattle.rt_base.specs.declared.id.TaskId.{TaskId}
 use Rattle.rt_model.specs.declared.event.Event.{Event}
+use Rattle.rt_model.specs.declared.event_kind.EventKind.{EventKind}
+use Rattle.rt_model.specs.declared.event_kind.EventKind.TheVariants as kinds
 use Rattle.rt_model.specs.declared.phase.Phase.{Phase}
 use Rattle.rt_model.specs.declared.phase.Phase.TheVariants as phases
 use Rattle.rt_model.specs.Parts.{TaskPart, ThreadPart, call_of}
@@ -53,9 +55,16 @@ can_move thread task = can_at thread task (call_of thread)
 abbrev pub IsOther : TaskId → Option TaskId → Type 0
 IsOther u named = IfSome named (λ v. nat_eq v.0 u.0 ≡ false)
 
--- the task neither acts in the event nor is one that it tells of
+-- whom a wakeup or a signal goes to
+abbrev pub target_at : EventKind → Event → Option TaskId
+target_at kinds.Wake e = e.other
+target_at _ e = None
+
+abbrev pub target_of : Event → Option TaskId
+target_of e = target_at e.kind e
+
+-- the task neither acts in the event nor is woken or signalled by it
 pub record IsUninvolved (u : TaskId) (e : Event) : Type 0 where
   pub task : nat_eq e.task.0 u.0 ≡ false
-  pub owner : IsOther u e.owner
-  pub other : IsOther u e.other
   pub woken : IsOther u e.woken
+  pub target : IsOther u (target_of e)

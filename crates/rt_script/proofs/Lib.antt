@@ -1,3 +1,8 @@
+pub mod Buildability
+pub mod Built
+pub mod BuiltCells
+pub mod BuiltLines
+pub mod BuiltNames
 pub mod CallFits
 pub mod Cells
 pub mod Growth

@@ -1,4 +1,6 @@
 pub mod Adding
+pub mod Buildable
+pub mod Building
 pub mod CallForms
 pub mod Calls
 pub mod Canonical

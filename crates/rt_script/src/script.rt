@@ -4,6 +4,9 @@ ghost use Rattle.rt_base.specs.Script.{task_line, lock_line, all_calls, budget_o
 ghost use Rattle.rt_script.specs.Names.{named, task_named, lock_named, AreNewLocks};
 ghost use Rattle.rt_script.specs.Adding.{empty_script, with_cpus, with_task, with_locks, with_call, with_pick};
 
+mod building;
+mod naming;
+
 use crate::lock::Lock;
 use crate::named::Named;
 use crate::task::Task;

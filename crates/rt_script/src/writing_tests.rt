@@ -40,7 +40,7 @@ fn same_locks(a: &Script, b: &Script) -> bool {
 }
 
 // All accessors of the two agree.
-fn same_script(a: &Script, b: &Script) -> bool {
+pub(super) fn same_script(a: &Script, b: &Script) -> bool {
     a.cpus() == b.cpus()
         && same_tasks(a, b)
         && same_locks(a, b)

@@ -13,9 +13,9 @@ use Rattle.rt_core.specs.Report.{report_of}
 use Rattle.rt_events.specs.Journal.{header, lines_of, end_line}
 use Rattle.rt_core.specs.Text.{replay_text}
 use Rattle.rt_top.specs.Status.{status_of}
-use Rattle.rt_top.specs.Turns.{after_picks}
+use Rattle.rt_policy.specs.Turns.{after_picks}
 use Rattle.rt_top.specs.Answer.{Output, IsPrinted, Replays}
-use Rattle.rt_top.proofs.PlayLoop.{lines_of-append}
+use Rattle.rt_policy.proofs.PlayLoop.{lines_of-append}
 
 -- what is played of a script first: the picks
 abbrev pub played_picks : Script → Played

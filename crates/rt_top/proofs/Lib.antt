@@ -1,11 +1,6 @@
-pub mod Printed
-pub mod PlayLoop
-pub mod Loops
-pub mod Reported
 pub mod Journal
 pub mod Spelled
 pub mod OptionForms
 pub mod Cli
-pub mod Turns
 pub mod MessageWritten
 pub mod ToGo

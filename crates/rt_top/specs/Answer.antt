@@ -19,7 +19,7 @@ use Rattle.rt_top.specs.declared.status.Status.{Status}
 use Rattle.rt_top.specs.declared.status.Status.TheVariants as statuses
 use Rattle.rt_top.specs.Checked.{script_part, journal_part}
 use Rattle.rt_top.specs.Message.{usage_line, read_fault_line, too_long_line, bad_script_line, legal_line, illegal_line}
-use Rattle.rt_top.specs.Turns.{IsCutShort, after_picks}
+use Rattle.rt_policy.specs.Turns.{IsCutShort, after_picks}
 use Rattle.rt_top.specs.Words.{most_bytes}
 
 -- the sink of a call: what it held before and holds after it, and how often it had failed

@@ -3,9 +3,6 @@ pub mod Status
 pub mod Words
 pub mod Message
 pub mod Checked
-pub mod Turns
-pub mod Printing
-pub mod Playing
 pub mod Answer
 pub use Rattle.rt_base.specs.Outside
 pub use Rattle.rt_base.specs.Script
@@ -24,3 +21,4 @@ pub use Rattle.rt_events.specs.Entry
 pub use Rattle.rt_events.specs.Line
 pub use Rattle.rt_events.specs.Journal
 pub use Rattle.rt_core.specs.Report
+pub use Rattle.rt_policy.specs.Turns

@@ -8,14 +8,7 @@ mod command;
 mod fault_tests;
 mod message;
 mod options;
-mod order;
-mod playing;
-mod printing;
-#[cfg(test)]
-mod printing_tests;
-mod progress;
 mod replaying;
-mod reporting;
 #[cfg(test)]
 mod row_tests;
 mod status;

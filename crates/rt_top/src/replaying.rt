@@ -8,16 +8,14 @@ ghost use Rattle.rt_model.specs.Run.{after, ended_of};
 ghost use Rattle.rt_model.specs.Order.{replayed};
 ghost use Rattle.rt_events.specs.Journal.{header, lines_of};
 ghost use Rattle.rt_core.specs.Text.{replay_text};
-ghost use Rattle.rt_top.specs.Turns.{TellsLimit, after_picks};
+ghost use Rattle.rt_policy.specs.Turns.{TellsLimit, after_picks};
 
 use crate::options::MAX_TURNS;
-use crate::playing::{finish, run_picks};
-use crate::printing::flush;
-use crate::reporting::write_report;
 use rt_base::limits::LINE_LIMIT;
-use rt_base::{Ended, Failed, Sink};
+use rt_base::{Ended, Failed, Sink, write_whole};
 use rt_core::Core;
 use rt_events::write_header;
+use rt_policy::{finish, run_picks, write_report};
 use rt_script::Script;
 
 // Writes the first line of a journal.
@@ -30,7 +28,9 @@ fn print_header<K: Sink>(buf: &mut Vec<u8>, out: &mut K) -> Result<(), Failed>
     ensures capacity { vec_capacity buf.old ≤ vec_capacity buf.new }
 {
     write_header(buf);
-    flush(buf, out)
+    write_whole(out, buf)?;
+    buf.clear();
+    Ok(())
 }
 
 // Writes the journal of a script's replay: the picks, then at most so many events in the stated order.

@@ -17,8 +17,12 @@ use rt_parts::{Shared, Thread};
 pub fn fast(shared: &mut Shared, thread: &mut Thread, e: &Event, l: LockId)
     requires task { e.now.task.0 < length shared.old.tasks }
     requires lock { l.0 < length shared.old.locks }
-    ensures shared { shared.new ≡ record shared.old { locks = update shared.old.locks l.0 (λ lock. record lock { owner = Some e.now.task }) } }
-    ensures thread { thread.new ≡ record thread.old { phase = phase_after_got (call_of thread.old) thread.old.phase } }
+    ensures shared { shared.new ≡ record shared.old {
+      locks = update shared.old.locks l.0 (λ lock. record lock { owner = Some e.now.task });
+    } }
+    ensures thread { thread.new ≡ record thread.old {
+      phase = phase_after_got (call_of thread.old) thread.old.phase;
+    } }
 {
     shared.set_owner(l, e.task);
     thread.got();
@@ -29,8 +33,13 @@ pub fn mark(shared: &mut Shared, thread: &mut Thread, l: LockId)
     requires lock { l.0 < length shared.old.locks }
     requires call { IsSome (call_of thread.old) }
     requires counted { IsCounted thread.old }
-    ensures shared { shared.new ≡ record shared.old { locks = update shared.old.locks l.0 (λ lock. record lock { bit = true }) } }
-    ensures thread { thread.new ≡ record thread.old { phase = Slow; migration = migration_with thread.old (call_of thread.old) None } }
+    ensures shared { shared.new ≡ record shared.old {
+      locks = update shared.old.locks l.0 (λ lock. record lock { bit = true });
+    } }
+    ensures thread { thread.new ≡ record thread.old {
+      phase = Slow;
+      migration = migration_with thread.old (call_of thread.old) None;
+    } }
 {
     shared.set_bit(l);
     thread.mark();
@@ -43,9 +52,12 @@ pub fn take(shared: &mut Shared, thread: &mut Thread, e: &Event, l: LockId)
     requires kinds { l.0 < length thread.old.kinds }
     ensures shared { shared.new ≡ record shared.old {
       locks = update shared.old.locks l.0 (taken_by e.now.task);
-      tasks = update shared.old.tasks e.now.task.0 (taker (Some l) (kind_of thread.old l) (taken_by e.now.task (lock_in shared.old l)));
+      tasks = update shared.old.tasks e.now.task.0
+          (taker (Some l) (kind_of thread.old l) (taken_by e.now.task (lock_in shared.old l)));
     } }
-    ensures thread { thread.new ≡ record thread.old { phase = phase_after_got (call_of thread.old) thread.old.phase } }
+    ensures thread { thread.new ≡ record thread.old {
+      phase = phase_after_got (call_of thread.old) thread.old.phase;
+    } }
 {
     shared.take(l, e.task);
     shared.leave_queue(e.task, thread.kind_of(l).spins());

@@ -6,7 +6,8 @@ ghost use Rattle.rt_model.specs.declared.phase.Phase.TheVariants.{WTry, WWait, R
 ghost use Rattle.rt_model.specs.Parts.{call_of, kind_of};
 ghost use Rattle.rt_model.specs.State.{readers_in};
 ghost use Rattle.rt_model.specs.StateAfter.{update, at_task};
-ghost use Rattle.rt_model.specs.steps.Readers.{CanStep, with_reader, without_reader, wakes_writer, unbiased, with_writer, without_writer};
+ghost use Rattle.rt_model.specs.steps.Readers.{CanStep, with_reader, without_reader, wakes_writer};
+ghost use Rattle.rt_model.specs.steps.Readers.{unbiased, with_writer, without_writer};
 ghost use Rattle.rt_model.specs.steps.Task.{rest_of, restored, lock_woken};
 ghost use Rattle.rt_model.specs.events.Readers.{phase_after_rin, where_slept, writer_rests};
 
@@ -30,8 +31,12 @@ pub fn rin(shared: &mut Shared, thread: &mut Thread, l: LockId)
 pub fn rout(shared: &mut Shared, thread: &mut Thread, l: LockId)
     requires lock { l.0 < length shared.old.locks }
     requires can { CanStep kinds.ROut 0 (readers_in shared.old l) }
-    ensures shared { shared.new ≡ record shared.old { readers = update shared.old.readers l.0 without_reader } }
-    ensures thread { thread.new ≡ record thread.old { phase = if wakes_writer (readers_in shared.new l) then WakeWriter else thread.old.phase } }
+    ensures shared { shared.new ≡ record shared.old {
+      readers = update shared.old.readers l.0 without_reader;
+    } }
+    ensures thread { thread.new ≡ record thread.old {
+      phase = if wakes_writer (readers_in shared.new l) then WakeWriter else thread.old.phase;
+    } }
 {
     if shared.read_out(l) {
         thread.go_to(Phase::WakeWriter);
@@ -67,7 +72,10 @@ pub fn wtake(shared: &mut Shared, e: &Event, l: LockId, kind: Kind)
 pub fn wsleep(shared: &mut Shared, thread: &mut Thread, e: &Event, l: LockId)
     requires task { e.now.task.0 < length shared.old.tasks }
     requires kinds { l.0 < length thread.old.kinds }
-    ensures shared { shared.new ≡ record shared.old { tasks = update shared.old.tasks e.now.task.0 (writer_rests thread.old.phase (rest_of (kind_of thread.old l) (call_of thread.old))) } }
+    ensures shared { shared.new ≡ record shared.old {
+      tasks = update shared.old.tasks e.now.task.0
+          (writer_rests thread.old.phase (rest_of (kind_of thread.old l) (call_of thread.old)));
+    } }
     ensures thread { thread.new ≡ record thread.old { phase = WWait } }
 {
     let rest = thread.rest_for(l);
@@ -82,7 +90,9 @@ pub fn wsleep(shared: &mut Shared, thread: &mut Thread, e: &Event, l: LockId)
 pub fn wopen(shared: &mut Shared, thread: &mut Thread, e: &Event, l: LockId)
     requires lock { l.0 < length shared.old.locks }
     requires can { CanStep kinds.WOpen e.now.value (readers_in shared.old l) }
-    ensures shared { shared.new ≡ record shared.old { readers = update shared.old.readers l.0 (without_writer (nat_eq e.now.value 1)) } }
+    ensures shared { shared.new ≡ record shared.old {
+      readers = update shared.old.readers l.0 (without_writer (nat_eq e.now.value 1));
+    } }
     ensures thread { thread.new ≡ record thread.old { phase = Release } }
 {
     shared.write_out(l, e.value == 1);
@@ -92,7 +102,9 @@ pub fn wopen(shared: &mut Shared, thread: &mut Thread, e: &Event, l: LockId)
 /// The owner of the inner lock, where it has one, gets a lock wakeup.
 pub fn wwake(shared: &mut Shared, e: &Event, kind: Kind)
     requires { IfSome e.now.woken (λ t. t.0 < length shared.old.tasks) }
-    ensures { shared.new ≡ record shared.old { tasks = at_task shared.old.tasks e.now.woken (lock_woken (spins kind)) } }
+    ensures { shared.new ≡ record shared.old {
+      tasks = at_task shared.old.tasks e.now.woken (lock_woken (spins kind));
+    } }
 {
     shared.lock_wake(e.woken, kind.spins());
 }

@@ -12,7 +12,9 @@ use rt_parts::Shared;
 /// The lock has no owner.
 pub fn free(shared: &mut Shared, l: LockId)
     requires { l.0 < length shared.old.locks }
-    ensures { shared.new ≡ record shared.old { locks = update shared.old.locks l.0 (λ lock. record lock { owner = None }) } }
+    ensures { shared.new ≡ record shared.old {
+      locks = update shared.old.locks l.0 (λ lock. record lock { owner = None });
+    } }
 {
     shared.clear_owner(l);
 }
@@ -24,7 +26,8 @@ pub fn give(shared: &mut Shared, e: &Event, l: LockId, kind: Kind)
     requires woken { IfSome e.now.woken (λ t. t.0 < length shared.old.tasks) }
     ensures { shared.new ≡ record shared.old {
       locks = update shared.old.locks l.0 given_up;
-      tasks = at_task (update shared.old.tasks e.now.task.0 (with_top (Some l) None)) e.now.woken (lock_woken (spins kind));
+      tasks = at_task (update shared.old.tasks e.now.task.0 (with_top (Some l) None))
+          e.now.woken (lock_woken (spins kind));
     } }
 {
     shared.give(l);

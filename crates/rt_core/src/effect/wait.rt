@@ -30,9 +30,13 @@ pub fn wait(shared: &mut Shared, thread: &mut Thread, e: &Event, l: LockId)
         let rest = rest_of (kind_of thread.old l) (call_of thread.old) in
         shared.new ≡ record shared.old {
           locks = update shared.old.locks l.0 (queued e.now.task key);
-          tasks = at_task (update shared.old.tasks e.now.task.0 (blocked_on (Some l) rest)) e.now.owner (refreshed (Some l) (queued e.now.task key (lock_in shared.old l)).rows);
+          tasks = at_task (update shared.old.tasks e.now.task.0 (blocked_on (Some l) rest))
+              e.now.owner (refreshed (Some l) (queued e.now.task key (lock_in shared.old l)).rows);
         } }
-    ensures thread { thread.new ≡ record thread.old { phase = phase_after_wait e.now.task (Some l) e.now.owner (is_some (task_at shared.old e.now.owner).blocked) } }
+    ensures thread { thread.new ≡ record thread.old {
+      phase = phase_after_wait e.now.task (Some l) e.now.owner
+          (is_some (task_at shared.old e.now.owner).blocked);
+    } }
 {
     let phase = phase_after_wait(shared, e.task, l, e.owner);
     let rest = thread.rest_for(l);
@@ -45,7 +49,9 @@ pub fn wait(shared: &mut Shared, thread: &mut Thread, e: &Event, l: LockId)
 /// The task goes to this state again.
 pub fn again(shared: &mut Shared, e: &Event, rest: TaskState)
     requires { e.now.task.0 < length shared.old.tasks }
-    ensures { shared.new ≡ record shared.old { tasks = update shared.old.tasks e.now.task.0 (λ task. record task { state = rest }) } }
+    ensures { shared.new ≡ record shared.old {
+      tasks = update shared.old.tasks e.now.task.0 (λ task. record task { state = rest });
+    } }
 {
     shared.rest_again(e.task, rest);
 }
@@ -58,9 +64,13 @@ pub fn leave(shared: &mut Shared, thread: &mut Thread, e: &Event, l: LockId)
     requires kinds { length thread.old.kinds ≡ length shared.old.locks }
     ensures shared { shared.new ≡ record shared.old {
       locks = update shared.old.locks l.0 (left_by e.now.task);
-      tasks = at_task (update shared.old.tasks e.now.task.0 (interrupted (spins (kind_of thread.old l)))) e.now.owner (refreshed (Some l) (left_by e.now.task (lock_in shared.old l)).rows);
+      tasks = at_task (update shared.old.tasks e.now.task.0 (interrupted (spins (kind_of thread.old l))))
+          e.now.owner (refreshed (Some l) (left_by e.now.task (lock_in shared.old l)).rows);
     } }
-    ensures thread { thread.new ≡ record thread.old { phase = phase_of_walk (goes_on e.now.task (Short Interrupted) e.now.owner (task_at shared.new e.now.owner)) } }
+    ensures thread { thread.new ≡ record thread.old {
+      phase = phase_of_walk
+          (goes_on e.now.task (Short Interrupted) e.now.owner (task_at shared.new e.now.owner));
+    } }
 {
     shared.clear_signal(e.task);
     leave_row(shared, thread, e.task, l, e.owner, Reply::Interrupted);
@@ -83,9 +93,12 @@ pub fn leave_row(
     requires kinds { length thread.old.kinds ≡ length shared.old.locks }
     ensures shared { shared.new ≡ record shared.old {
       locks = update shared.old.locks l.0 (left_by t);
-      tasks = at_task (update shared.old.tasks t.0 (leave_queue (spins (kind_of thread.old l)))) owner (refreshed (Some l) (left_by t (lock_in shared.old l)).rows);
+      tasks = at_task (update shared.old.tasks t.0 (leave_queue (spins (kind_of thread.old l))))
+          owner (refreshed (Some l) (left_by t (lock_in shared.old l)).rows);
     } }
-    ensures thread { thread.new ≡ record thread.old { phase = phase_of_walk (goes_on t (Short answer) owner (task_at shared.new owner)) } }
+    ensures thread { thread.new ≡ record thread.old {
+      phase = phase_of_walk (goes_on t (Short answer) owner (task_at shared.new owner));
+    } }
 {
     shared.remove(l, t);
     shared.leave_queue(t, thread.kind_of(l).spins());

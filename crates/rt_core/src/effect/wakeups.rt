@@ -18,7 +18,10 @@ use rt_parts::{Shared, Thread};
 /// The task goes into the state of this number, `set_current_state`.
 pub fn state(shared: &mut Shared, e: &Event)
     requires { e.now.task.0 < length shared.old.tasks }
-    ensures { shared.new ≡ record shared.old { tasks = update shared.old.tasks e.now.task.0 (λ task. record task { state = state_numbered e.now.value }) } }
+    ensures { shared.new ≡ record shared.old {
+      tasks = update shared.old.tasks e.now.task.0
+          (λ task. record task { state = state_numbered e.now.value });
+    } }
 {
     shared.set_state(e.task, state_numbered(e.value));
 }
@@ -26,7 +29,9 @@ pub fn state(shared: &mut Shared, e: &Event)
 /// The task runs, once it has given the processor up.
 pub fn sched(shared: &mut Shared, e: &Event)
     requires { e.now.task.0 < length shared.old.tasks }
-    ensures { shared.new ≡ record shared.old { tasks = update shared.old.tasks e.now.task.0 (λ task. record task { state = Running }) } }
+    ensures { shared.new ≡ record shared.old {
+      tasks = update shared.old.tasks e.now.task.0 (λ task. record task { state = Running });
+    } }
 {
     shared.set_state(e.task, TaskState::Running);
 }
@@ -35,7 +40,9 @@ pub fn sched(shared: &mut Shared, e: &Event)
 /// them apart.
 pub fn wake(shared: &mut Shared, e: &Event)
     requires { IfSome e.now.other (λ t. t.0 < length shared.old.tasks) }
-    ensures { shared.new ≡ record shared.old { tasks = at_task shared.old.tasks e.now.other (woken_by e.now.value) } }
+    ensures { shared.new ≡ record shared.old {
+      tasks = at_task shared.old.tasks e.now.other (woken_by e.now.value);
+    } }
 {
     let Some(u) = e.other else { return };
     match e.value {
@@ -49,8 +56,12 @@ pub fn wake(shared: &mut Shared, e: &Event)
 pub fn setprio(shared: &mut Shared, thread: &mut Thread, e: &Event)
     requires other { IfSome e.now.other (λ t. t.0 < length shared.old.tasks) }
     requires set { IsPriority e.now }
-    ensures shared { shared.new ≡ record shared.old { tasks = at_task shared.old.tasks e.now.other (with_own e.now.value) } }
-    ensures thread { thread.new ≡ record thread.old { phase = phase_of_walk (goes_on e.now.task (Short Done) e.now.other (task_at shared.new e.now.other)) } }
+    ensures shared { shared.new ≡ record shared.old {
+      tasks = at_task shared.old.tasks e.now.other (with_own e.now.value);
+    } }
+    ensures thread { thread.new ≡ record thread.old {
+      phase = phase_of_walk (goes_on e.now.task (Short Done) e.now.other (task_at shared.new e.now.other));
+    } }
 {
     let (Some(u), Some(prio)) = (e.other, Prio::new(e.value as u64)) else {
         return;

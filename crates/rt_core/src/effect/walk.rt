@@ -8,7 +8,8 @@ ghost use Rattle.rt_base.specs.Kind.{spins};
 ghost use Rattle.rt_model.specs.Parts.{kind_of};
 ghost use Rattle.rt_model.specs.State.{lock_in, task_at};
 ghost use Rattle.rt_model.specs.StateAfter.{update, at_task};
-ghost use Rattle.rt_model.specs.steps.Chain.{has_old_key, requeued_where_old, rekeyed, refreshed_where_changed, goes_on, phase_of_walk};
+ghost use Rattle.rt_model.specs.steps.Chain.{has_old_key, requeued_where_old, rekeyed};
+ghost use Rattle.rt_model.specs.steps.Chain.{refreshed_where_changed, goes_on, phase_of_walk};
 ghost use Rattle.rt_model.specs.Path.{first_owner};
 ghost use Rattle.rt_model.specs.steps.Lock.{left_by};
 ghost use Rattle.rt_model.specs.steps.Task.{refreshed, leave_queue, lock_woken};
@@ -35,12 +36,18 @@ pub fn walk(shared: &mut Shared, thread: &mut Thread, e: &Event, l: LockId)
     requires kinds { length thread.old.kinds ≡ length shared.old.locks }
     requires link { IsLink e.now shared.old thread.old }
     ensures shared { let requeued = requeued_where_old e.now.other (task_at shared.old e.now.other) in
-        let refreshed = at_task shared.old.tasks e.now.owner (refreshed_where_changed (Some l) (lock_in shared.old l).rows (requeued (lock_in shared.old l)).rows) in
+        let refreshed = at_task shared.old.tasks e.now.owner
+        (refreshed_where_changed (Some l) (lock_in shared.old l).rows
+        (requeued (lock_in shared.old l)).rows) in
         shared.new ≡ record shared.old {
           locks = update shared.old.locks l.0 requeued;
-          tasks = at_task (at_task refreshed e.now.other rekeyed) e.now.woken (lock_woken (spins (kind_of thread.old l)));
+          tasks = at_task (at_task refreshed e.now.other rekeyed)
+              e.now.woken (lock_woken (spins (kind_of thread.old l)));
         } }
-    ensures thread { thread.new ≡ record thread.old { phase = phase_after_link e.now.task (Some l) e.now.owner (task_at shared.new e.now.owner) thread.old.phase } }
+    ensures thread { thread.new ≡ record thread.old {
+      phase = phase_after_link e.now.task (Some l) e.now.owner
+          (task_at shared.new e.now.owner) thread.old.phase;
+    } }
 {
     let Some(u) = e.other else { return };
     shared.link(u, l);
@@ -64,9 +71,13 @@ pub fn cycle(shared: &mut Shared, thread: &mut Thread, e: &Event, l: LockId)
     requires kinds { length thread.old.kinds ≡ length shared.old.locks }
     ensures shared { shared.new ≡ record shared.old {
       locks = update shared.old.locks l.0 (left_by e.now.task);
-      tasks = at_task (update shared.old.tasks e.now.task.0 (leave_queue (spins (kind_of thread.old l)))) (first_owner e.now.path) (refreshed (Some l) (left_by e.now.task (lock_in shared.old l)).rows);
+      tasks = at_task (update shared.old.tasks e.now.task.0 (leave_queue (spins (kind_of thread.old l))))
+          (first_owner e.now.path) (refreshed (Some l) (left_by e.now.task (lock_in shared.old l)).rows);
     } }
-    ensures thread { let owner = first_owner e.now.path in thread.new ≡ record thread.old { phase = phase_of_walk (goes_on e.now.task (Short Deadlock) owner (task_at shared.new owner)) } }
+    ensures thread { let owner = first_owner e.now.path in
+        thread.new ≡ record thread.old {
+          phase = phase_of_walk (goes_on e.now.task (Short Deadlock) owner (task_at shared.new owner));
+        } }
 {
     let owner = first_owner(&e.path);
     leave_row(shared, thread, e.task, l, owner, Reply::Deadlock);
@@ -77,7 +88,8 @@ pub fn cycle(shared: &mut Shared, thread: &mut Thread, e: &Event, l: LockId)
 /// old key, a short walk begins there; else the call's answer follows, which ends the phase.
 pub fn first_phase(shared: &Shared, task: Option<TaskId>, answer: Reply) -> Phase
     requires { IfSome task (λ t. t.0 < length shared.now.tasks) }
-    ensures { (walker : TaskId) → result ≡ phase_of_walk (goes_on walker (Short answer) task (task_at shared.now task)) }
+    ensures { (walker : TaskId)
+        → result ≡ phase_of_walk (goes_on walker (Short answer) task (task_at shared.now task)) }
 {
     match task {
         Some(u) if has_old_key(shared.task(u)) => Phase::Walk(u, Route::Short(answer)),

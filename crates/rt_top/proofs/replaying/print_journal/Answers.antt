@@ -4,7 +4,7 @@ use Rattle.rt_base.proofs.Outside.{Writes-then, Writes-stopped}
 use Rattle.rt_model.specs.Order.{chosen, replayed}
 use Rattle.rt_core.specs.Core.{Made}
 use Rattle.rt_events.specs.Journal.{header, lines_of}
-use Rattle.rt_top.specs.Turns.{after_picks}
+use Rattle.rt_policy.specs.Turns.{after_picks}
 use Rattle.rt_top.proofs.Journal.{played_picks, after_picks_is, journal_parts, picks_lines, after_picks_lines}
 use Rattle.rt_top.proofs.replaying.print_journal.Goals as goal
 

@@ -1,5 +1,6 @@
 use Rattle.std.proofs.Common.{◌∙◌, ◌<◌, ap, sym, subst, length, Option, Some, IfSome}
 use Rattle.rt_base.specs.declared.id.TaskId.{TaskId}
+use Rattle.rt_model.specs.CanMove.{target_of}
 use Rattle.rt_model.specs.State.{State, object}
 use Rattle.rt_model.specs.StateAfter.{state_after}
 use Rattle.rt_model.specs.laws.Shape.{IsOf, IsWithin}
@@ -9,6 +10,7 @@ use Rattle.rt_model.proofs.EffectLocal.{effect}
 use Rattle.rt_model.proofs.Frame.{frame}
 use Rattle.rt_model.proofs.laws.Shape.{IsOf-after}
 use Rattle.rt_core.specs.Core.{Made}
+use Rattle.rt_model.proofs.Uninvolved.{target-there}
 use Rattle.rt_core.proofs.Applying.{thread-there, fits_thread, named-left, names-within, state_left, lawful_left, cells_left, kept-left}
 use Rattle.rt_core.proofs.machine.Core.apply.Goals.{After-as_slice}
 use Rattle.rt_core.proofs.machine.Core.apply.Goals as goal
@@ -37,14 +39,11 @@ names c = names-within _ _ _ _ c.args.e.now c.self.invariant.0 c.self.view_is c.
 pub look_after-requires-clause-task : goal.look_after-requires-clause-task
 look_after-requires-clause-task c = named c (Some c.args.e.now.task) (names c).task
 
-pub look_after-requires-clause-owner : goal.look_after-requires-clause-owner
-look_after-requires-clause-owner c = named c c.args.e.now.owner (names c).owner
-
-pub look_after-requires-clause-other : goal.look_after-requires-clause-other
-look_after-requires-clause-other c = named c c.args.e.now.other (names c).other
-
 pub look_after-requires-clause-woken : goal.look_after-requires-clause-woken
 look_after-requires-clause-woken c = named c c.args.e.now.woken (names c).woken
+
+pub look_after-requires-clause-target : goal.look_after-requires-clause-target
+look_after-requires-clause-target c = named c (target_of c.args.e.now) (target-there _ c.args.e.now.kind c.args.e.now (names c).other)
 
 pub invariant_of-self : goal.invariant_of-self
 invariant_of-self c =

@@ -1,0 +1,11 @@
+pub mod Printed
+pub mod Going
+pub mod PlayLoop
+pub mod Loops
+pub mod Reported
+pub mod Turns
+pub mod Counted
+pub mod CountLoop
+pub mod Drawing
+pub mod GeneratedParts
+pub mod Buildable

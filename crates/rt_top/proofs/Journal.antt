@@ -1,5 +1,5 @@
 -- The parts of the text of a replay.
-use Rattle.std.proofs.Common.{◌≡◌, ℕ, ◌+◌, ◌++◌, length, Option, None, sym, ap, ◌∙◌, append_assoc, arith}
+use Rattle.std.proofs.Common.{◌≡◌, ℕ, List, ◌+◌, ◌++◌, length, Option, None, sym, ap, ◌∙◌, append_assoc, arith}
 use Rattle.rt_base.specs.Script.{Script}
 use Rattle.rt_base.specs.declared.ended.Ended.{Ended}
 use Rattle.rt_base.specs.declared.ended.Ended.TheVariants as ends
@@ -63,8 +63,8 @@ text_parts script turns s ended left ends_so =
 pub ended_after : (script : Script) (turns : ℕ) (s : State) (ended : Ended) → s ≡ (replayed script turns).state → ended ≡ ended_of s → ended_of (after (start script) (replayed script turns).events) ≡ ended
 ended_after script turns s ended left ends_so = ap ended_of ((replayed_leads script turns).state ∙ sym left) ∙ sym ends_so
 
--- a run that was printed is answered by how it ended
-pub Replays-printed : (script : Script) (turns : ℕ) (ended : Ended) (output : Output) → IsPrinted script turns ended output → Replays (status_of ended) script turns output
-Replays-printed script turns ends.Done output printed = printed
-Replays-printed script turns ends.Stuck output printed = printed
-Replays-printed script turns ends.Limit output printed = printed
+-- a run of which the text was written is answered by how it ended
+pub Replays-printed : (script : Script) (turns : ℕ) (text : List ℕ) (ended : Ended) (output : Output) → IsPrinted script turns text ended output → Replays (status_of ended) script turns text output
+Replays-printed script turns text ends.Done output printed = printed
+Replays-printed script turns text ends.Stuck output printed = printed
+Replays-printed script turns text ends.Limit output printed = printed

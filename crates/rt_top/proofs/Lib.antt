@@ -1,4 +1,6 @@
 pub mod Journal
+pub mod Summed
+pub mod SummaryParts
 pub mod Spelled
 pub mod OptionForms
 pub mod Cli

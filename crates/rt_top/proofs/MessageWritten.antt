@@ -5,6 +5,7 @@ use Rattle.rt_base.specs.declared.fault.Failed.{Failed}
 use Rattle.rt_base.specs.Outside.{Writes}
 use Rattle.rt_script.specs.Grammar.{FaultAt, script_of}
 use Rattle.rt_top.specs.declared.command.Command.{Command}
+use Rattle.rt_top.specs.declared.purpose.Purpose.{Purpose}
 use Rattle.rt_top.specs.declared.status.Status.{Status}
 use Rattle.rt_top.specs.declared.status.Status.TheVariants as statuses
 use Rattle.rt_top.specs.Message.{usage_line}
@@ -22,17 +23,17 @@ told (Ok x) line held_before held_after faults_before faults_after writes = inl 
 told (Err e) line held_before held_after faults_before faults_after writes = inr (writes.cause, writes.part)
 
 -- an input whose script is refused for its fault
-pub refused : (command : Command) (status : Status) (input : List ℕ) (output : Output) (fault : FaultAt) → script_of (script_text command input) ≡ Err fault → AnswersBadScript status fault output → AnswersInput command status input output
-refused command statuses.BadScript input output fault is told = (fault, is, told)
-refused command statuses.NoMemory input output fault is told = tt
-refused command statuses.Done input output fault is told = absurd told
-refused command statuses.Usage input output fault is told = absurd told
-refused command statuses.Stuck input output fault is told = absurd told
-refused command statuses.Limit input output fault is told = absurd told
-refused command statuses.ReadFault input output fault is told = absurd told
-refused command statuses.WriteFault input output fault is told = absurd told
-refused command statuses.TooLong input output fault is told = absurd told
-refused command statuses.Illegal input output fault is told = absurd told
+pub refused : (purpose : Purpose) (status : Status) (input : List ℕ) (output : Output) (fault : FaultAt) → script_of (script_text purpose input) ≡ Err fault → AnswersBadScript status fault output → AnswersInput purpose status input output
+refused purpose statuses.BadScript input output fault is told = (fault, is, told)
+refused purpose statuses.NoMemory input output fault is told = tt
+refused purpose statuses.Done input output fault is told = absurd told
+refused purpose statuses.Usage input output fault is told = absurd told
+refused purpose statuses.Stuck input output fault is told = absurd told
+refused purpose statuses.Limit input output fault is told = absurd told
+refused purpose statuses.ReadFault input output fault is told = absurd told
+refused purpose statuses.WriteFault input output fault is told = absurd told
+refused purpose statuses.TooLong input output fault is told = absurd told
+refused purpose statuses.Illegal input output fault is told = absurd told
 
 -- words that aren't taken
 pub unaccepted : (o : Option Command) (input : Input) (output : Output) → is_some o ≡ false → IsTold usage_line output → Answers o statuses.Usage [] input output

@@ -7,10 +7,11 @@ use Rattle.clap.specs.Words.{ReadsOne}
 use Rattle.std.proofs.lemmas.Slice.Eq.{bytes_eq-Decides}
 use Rattle.rt_script.specs.Words.{◌>>=◌, only_if, number_upto}
 use Rattle.rt_top.specs.declared.options.Options.{Options}
-use Rattle.rt_top.specs.declared.options.TheConstants.{MAX_TURNS}
+use Rattle.rt_top.specs.declared.options.TheConstants.{MAX_SEED, MAX_TURNS}
 use Rattle.rt_top.specs.declared.command.Command.{Command}
-use Rattle.rt_top.specs.declared.command.Command.TheVariants.{Replay, Check}
-use Rattle.rt_top.specs.Words.{IsSaid, IsTurns, alone, command_of, no_options, options_after, with_option}
+use Rattle.rt_top.specs.declared.command.Command.TheVariants.{Read, Gen}
+use Rattle.rt_top.specs.declared.purpose.Purpose.TheVariants.{Replay, Check}
+use Rattle.rt_top.specs.Words.{IsNumber, IsSaid, IsTurns, check_of, command_of, gen_of, no_options, options_after, replay_of, with_option}
 use Rattle.rt_top.proofs.Spelled.{spells, some_of, first_of, no_zero, number_upto-parsed}
 
 if_passed : {A : Type 0} (b : Bool) (o : Option A) (a : A) → only_if b o ≡ Some a → (b ≡ true) × (o ≡ Some a)
@@ -83,59 +84,77 @@ two_words (v ∷ w ∷ z ∷ xs) x y some few a b = absurd (omega arith)
 
 -- ---- the forms
 
--- `replay` alone, or with its option, or `check`
-pub data Form (words : List (List ℕ)) (command : Command) : Type 0 where
-  plain : words ≡ codes "replay" ∷ [] → command ≡ Replay no_options → Form words command
-  with_turns : (word : List ℕ) (n : ℕ) → words ≡ codes "replay" ∷ codes "--turns" ∷ word ∷ [] → number_upto MAX_TURNS word ≡ Some n → command ≡ Replay (record { turns = Some n }) → Form words command
-  check : words ≡ codes "check" ∷ [] → command ≡ Check → Form words command
+-- no option, or one
+pub data OptionForm (words : List (List ℕ)) (options : Options) : Type 0 where
+  none_given : words ≡ [] → options ≡ no_options → OptionForm words options
+  turns_given : (word : List ℕ) (n : ℕ) → words ≡ codes "--turns" ∷ word ∷ [] → number_upto MAX_TURNS word ≡ Some n → options ≡ record { turns = Some n } → OptionForm words options
 
--- what follows `replay`
-replay_form : (rest : List (List ℕ)) (options : Options) → options_after no_options rest ≡ Some options → Form (codes "replay" ∷ rest) (Replay options)
-replay_form [] options is = plain refl (ap Replay (sym (cc is)))
-replay_form (name ∷ []) options is = cc is
-replay_form (name ∷ word ∷ more) options is = given (with_option no_options name word) refl is
+-- `replay` with its options, `check`, or `gen` with its number and its options
+pub data Form (words : List (List ℕ)) (command : Command) : Type 0 where
+  replay : (rest : List (List ℕ)) (options : Options) → words ≡ codes "replay" ∷ rest → OptionForm rest options → command ≡ Read (Replay options) → Form words command
+  check : words ≡ codes "check" ∷ [] → command ≡ Read Check → Form words command
+  gen : (word : List ℕ) (n : ℕ) (rest : List (List ℕ)) (options : Options) → words ≡ codes "gen" ∷ word ∷ rest → number_upto MAX_SEED word ≡ Some n → OptionForm rest options → command ≡ Gen n options → Form words command
+
+-- words that are options
+option_form : (words : List (List ℕ)) (options : Options) → options_after no_options words ≡ Some options → OptionForm words options
+option_form [] options is = none_given refl (sym (cc is))
+option_form (name ∷ []) options is = cc is
+option_form (name ∷ word ∷ more) options is = given (with_option no_options name word) refl is
   where
-    given : (o : Option Options) → with_option no_options name word ≡ o → (o >>= λ given. options_after given more) ≡ Some options → Form (codes "replay" ∷ name ∷ word ∷ more) (Replay options)
+    given : (o : Option Options) → with_option no_options name word ≡ o → (o >>= λ given. options_after given more) ≡ Some options → OptionForm (name ∷ word ∷ more) options
     given None one all = cc all
     given (Some so_far) one all =
         let t = has_turns name word so_far one in
         let r = no_more t.number more options (subst (λ (o : Options). options_after o more ≡ Some options) t.given all) in
-        with_turns word t.number (λ i. codes "replay" ∷ t.named i ∷ word ∷ r.0 i) t.spelled (ap Replay r.1)
+        turns_given word t.number (λ i. t.named i ∷ word ∷ r.0 i) t.spelled r.1
 
-replayed : (rest : List (List ℕ)) (o : Option Options) (command : Command) → options_after no_options rest ≡ o → option_map Replay o ≡ Some command → Form (codes "replay" ∷ rest) command
+-- what follows `replay`
+replayed : (rest : List (List ℕ)) (o : Option Options) (command : Command) → options_after no_options rest ≡ o → option_map (λ options. Read (Replay options)) o ≡ Some command → Form (codes "replay" ∷ rest) command
 replayed rest None command is e = cc e
-replayed rest (Some options) command is e = subst (Form (codes "replay" ∷ rest)) (cc e) (replay_form rest options is)
+replayed rest (Some options) command is e = replay rest options refl (option_form rest options is) (sym (cc e))
 
-checked : (rest : List (List ℕ)) (command : Command) → alone Check rest ≡ Some command → Form (codes "check" ∷ rest) command
+-- what follows the number of `gen`
+numbered : (word : List ℕ) (n : ℕ) (rest : List (List ℕ)) (o : Option Options) (command : Command) → number_upto MAX_SEED word ≡ Some n → options_after no_options rest ≡ o → option_map (Gen n) o ≡ Some command → Form (codes "gen" ∷ word ∷ rest) command
+numbered word n rest None command spelled is e = cc e
+numbered word n rest (Some options) command spelled is e = gen word n rest options refl spelled (option_form rest options is) (sym (cc e))
+
+-- what follows `gen`
+generated : (rest : List (List ℕ)) (command : Command) → gen_of rest ≡ Some command → Form (codes "gen" ∷ rest) command
+generated [] command e = cc e
+generated (word ∷ rest) command e = given (number_upto MAX_SEED word) refl e
+  where
+    given : (o : Option ℕ) → number_upto MAX_SEED word ≡ o → (o >>= λ n. option_map (Gen n) (options_after no_options rest)) ≡ Some command → Form (codes "gen" ∷ word ∷ rest) command
+    given None spelled all = cc all
+    given (Some n) spelled all = numbered word n rest (options_after no_options rest) command spelled refl all
+
+checked : (rest : List (List ℕ)) (command : Command) → check_of rest ≡ Some command → Form (codes "check" ∷ rest) command
 checked [] command e = check refl (sym (cc e))
 checked (word ∷ words) command e = cc e
 
 pub forms : (words : List (List ℕ)) (command : Command) → command_of words ≡ Some command → Form words command
 forms [] command e = cc e
-forms (name ∷ words) command e = by_name (bytes_eq name (codes "replay")) refl e
+forms (name ∷ words) command e = by_name (bytes_eq name (codes "replay")) (bytes_eq name (codes "gen")) refl refl e
   where
-    by_name : (b : Bool) → bytes_eq name (codes "replay") ≡ b → cond b (option_map Replay (options_after no_options words)) (only_if (bytes_eq name (codes "check")) (alone Check words)) ≡ Some command → Form (name ∷ words) command
-    by_name true is e =
+    by_name : (b c : Bool) → bytes_eq name (codes "replay") ≡ b → bytes_eq name (codes "gen") ≡ c → cond b (replay_of words) (cond c (gen_of words) (only_if (bytes_eq name (codes "check")) (check_of words))) ≡ Some command → Form (name ∷ words) command
+    by_name true c is other e =
         let named : name ≡ codes "replay" = (bytes_eq-Decides name (codes "replay")).0 is in
         subst (λ (n : List ℕ). Form (n ∷ words) command) (sym named) (replayed words (options_after no_options words) command refl e)
-    by_name false is e =
-        let p = if_passed (bytes_eq name (codes "check")) (alone Check words) command e in
+    by_name false true is other e =
+        let named : name ≡ codes "gen" = (bytes_eq-Decides name (codes "gen")).0 other in
+        subst (λ (n : List ℕ). Form (n ∷ words) command) (sym named) (generated words command e)
+    by_name false false is other e =
+        let p = if_passed (bytes_eq name (codes "check")) (check_of words) command e in
         let named : name ≡ codes "check" = (bytes_eq-Decides name (codes "check")).0 p.0 in
         subst (λ (n : List ℕ). Form (n ∷ words) command) (sym named) (checked words command p.1)
 
 -- ---- what is said
 
 -- a command of that name is `check`
-pub said_check : (name turns : Option (List ℕ)) (o : Option Command) → IsSaid name turns o → name ≡ Some (codes "check") → o ≡ Some Check
-said_check name turns None said is = absurd said
-said_check name turns (Some Check) said is = refl
-said_check name turns (Some (Replay options)) said is = let other : Some (codes "replay") ≡ Some (codes "check") = sym said.0 ∙ is in cc other
-
--- a command of another name is `replay`, with its options
-pub said_replay : (name turns : Option (List ℕ)) (o : Option Command) → IsSaid name turns o → (name ≡ Some (codes "check") → ⊥) → (options : Options) × (o ≡ Some (Replay options)) × IsTurns turns options
-said_replay name turns None said other = absurd said
-said_replay name turns (Some Check) said other = absurd (other said)
-said_replay name turns (Some (Replay options)) said other = (options, refl, said.1)
+pub said_check : (name number turns : Option (List ℕ)) (o : Option Command) → IsSaid name number turns o → name ≡ Some (codes "check") → o ≡ Some (Read Check)
+said_check name number turns None said is = absurd said
+said_check name number turns (Some (Read Check)) said is = refl
+said_check name number turns (Some (Read (Replay options))) said is = let other : Some (codes "replay") ≡ Some (codes "check") = sym said.0 ∙ is in cc other
+said_check name number turns (Some (Gen n options)) said is = let other : Some (codes "gen") ≡ Some (codes "check") = sym said.0 ∙ is in cc other
 
 -- ---- the number that is read
 
@@ -152,6 +171,11 @@ number_read word n r is parses =
 abbrev with_number : Option ℕ → Options
 with_number n = record { turns = n }
 
+-- `gen` where there is a number, and else `replay`
+abbrev pub command_as : Option ℕ → Option ℕ → Command
+command_as None t = Read (Replay (with_number t))
+command_as (Some n) t = Gen n (with_number t)
+
 module _ {E : Type 0} (G : List ℕ → Result ℕ E → Type 0) (parses : (word : List ℕ) (r : Result ℕ E) → G word r → ParsesUnsigned 32 10 word r) where
   one_read : (word : List ℕ) (n : ℕ) (r : Option ℕ) → number_upto MAX_TURNS word ≡ Some n → ReadsOne G word r → r ≡ Some n
   one_read word n (Some v) is g = number_read {E = E} word n (Ok v) is (parses word (Ok v) g)
@@ -161,3 +185,18 @@ module _ {E : Type 0} (G : List ℕ → Result ℕ E → Type 0) (parses : (word
   pub turns_read : (given : Option (List ℕ)) (options : Options) (r : Option ℕ) → IsTurns given options → (given ≡ None → r ≡ None) → ((word : List ℕ) → given ≡ Some word → ReadsOne G word r) → options ≡ with_number r
   turns_read None options r is none some = is ∙ λ i. with_number (sym (none refl) i)
   turns_read (Some word) options r is none some = is.2 ∙ λ i. with_number (sym (one_read word is.0 r is.1 (some word refl)) i)
+
+  -- what it gives at the number's place, read as a number, is the number that is asked for
+  number_is : (given : Option (List ℕ)) (n : ℕ) (r : Option ℕ) → IsNumber given n → ((word : List ℕ) → given ≡ Some word → ReadsOne G word r) → r ≡ Some n
+  number_is None n r is some = absurd is
+  number_is (Some word) n r is some = one_read word n r is (some word refl)
+
+  -- a command of another name than `check` is `gen` where a number is read, and else `replay`
+  pub command_read : (name number turns : Option (List ℕ)) (o : Option Command) (n t : Option ℕ) → IsSaid name number turns o → (name ≡ Some (codes "check") → ⊥)
+      → (number ≡ None → n ≡ None) → ((word : List ℕ) → number ≡ Some word → ReadsOne G word n) → (turns ≡ None → t ≡ None) → ((word : List ℕ) → turns ≡ Some word → ReadsOne G word t) → o ≡ Some (command_as n t)
+  command_read name number turns None n t said other no_number number_at no_turns turns_at = absurd said
+  command_read name number turns (Some (Read Check)) n t said other no_number number_at no_turns turns_at = absurd (other said)
+  command_read name number turns (Some (Read (Replay options))) n t said other no_number number_at no_turns turns_at =
+      ap (λ (o : Options). Some (Read (Replay o))) (turns_read turns options t said.2 no_turns turns_at) ∙ ap (λ (m : Option ℕ). Some (command_as m t)) (sym (no_number said.1))
+  command_read name number turns (Some (Gen m options)) n t said other no_number number_at no_turns turns_at =
+      ap (λ (o : Options). Some (Gen m o)) (turns_read turns options t said.2 no_turns turns_at) ∙ ap (λ (m : Option ℕ). Some (command_as m t)) (sym (number_is number m n said.1 number_at))

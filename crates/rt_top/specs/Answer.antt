@@ -13,13 +13,17 @@ use Rattle.rt_core.specs.Text.{replay_text}
 use Rattle.rt_check.specs.Legal.{IsLegal}
 use Rattle.rt_check.specs.FirstWrong.{IsFirstWrong}
 use Rattle.rt_top.specs.declared.command.Command.{Command}
-use Rattle.rt_top.specs.declared.command.Command.TheVariants.{Replay, Check}
+use Rattle.rt_top.specs.declared.command.Command.TheVariants.{Read, Gen}
 use Rattle.rt_top.specs.declared.options.Options.{Options}
+use Rattle.rt_top.specs.declared.purpose.Purpose.{Purpose}
+use Rattle.rt_top.specs.declared.purpose.Purpose.TheVariants.{Replay, Check}
 use Rattle.rt_top.specs.declared.status.Status.{Status}
 use Rattle.rt_top.specs.declared.status.Status.TheVariants as statuses
 use Rattle.rt_top.specs.Checked.{script_part, journal_part}
 use Rattle.rt_top.specs.Message.{usage_line, read_fault_line, too_long_line, bad_script_line, legal_line, illegal_line}
+use Rattle.rt_policy.specs.Generator.{generated}
 use Rattle.rt_policy.specs.Turns.{IsCutShort, after_picks}
+use Rattle.rt_top.specs.Summary.{gen_text}
 use Rattle.rt_top.specs.Words.{most_bytes}
 
 -- the sink of a call: what it held before and holds after it, and how often it had failed
@@ -54,30 +58,38 @@ IsTold line output =
 abbrev pub turns_of : Options → Script → ℕ
 turns_of options script = unwrap_or options.turns (budget_of script)
 
--- the replay of the script with so many turns is a run, and sound; its text was written without a fault, and it ended so
-pub record IsPrinted (script : Script) (turns : ℕ) (ended : Ended) (output : Output) : Type 0 where
+-- the replay of the script with so many turns is a run, and sound; what is to be printed was written without a fault, and the run ended so
+pub record IsPrinted (script : Script) (turns : ℕ) (printed : List ℕ) (ended : Ended) (output : Output) : Type 0 where
   pub run : IsRun (start script) (replayed script turns).events
   pub sound : IsSound script (replayed script turns).events
-  pub text : Appends output.held_before (replay_text script turns) output.held_after
+  pub text : Appends output.held_before printed output.held_after
   pub no_fault : output.faults_after ≡ output.faults_before
   pub ends_so : ended_of (after (start script) (replayed script turns).events) ≡ ended
   pub limit : (ended ≡ ends.Limit) ↔ IsCutShort turns (after_picks script turns)
 
--- the sink failed, and holds some prefix of the text of the script's replay, which is a run, and sound
-pub record IsCut (script : Script) (turns : ℕ) (output : Output) : Type 0 where
+-- the sink failed, and holds some prefix of what is to be printed of the script's replay, which is a run, and sound
+pub record IsCut (script : Script) (turns : ℕ) (printed : List ℕ) (output : Output) : Type 0 where
   pub cause : Rises output.faults_before output.faults_after
   pub run : IsRun (start script) (replayed script turns).events
   pub sound : IsSound script (replayed script turns).events
-  pub text : AppendsPrefix output.held_before (replay_text script turns) output.held_after
+  pub text : AppendsPrefix output.held_before printed output.held_after
 
--- what an answer says of the replay of a script
-abbrev pub Replays : Status → Script → ℕ → Output → Type 0
-Replays statuses.Done script turns output = IsPrinted script turns ends.Done output
-Replays statuses.Stuck script turns output = IsPrinted script turns ends.Stuck output
-Replays statuses.Limit script turns output = IsPrinted script turns ends.Limit output
-Replays statuses.WriteFault script turns output = IsCut script turns output
-Replays statuses.NoMemory script turns output = Unit {0}
-Replays _ script turns output = ⊥
+-- what an answer says of the replay of a script, of which this text is written
+abbrev pub Replays : Status → Script → ℕ → List ℕ → Output → Type 0
+Replays statuses.Done script turns text output = IsPrinted script turns text ends.Done output
+Replays statuses.Stuck script turns text output = IsPrinted script turns text ends.Stuck output
+Replays statuses.Limit script turns text output = IsPrinted script turns text ends.Limit output
+Replays statuses.WriteFault script turns text output = IsCut script turns text output
+Replays statuses.NoMemory script turns text output = Unit {0}
+Replays _ script turns text output = ⊥
+
+-- what an answer says of a replay that is written as journal and report
+abbrev pub Journals : Status → Options → Script → Output → Type 0
+Journals status options script output = let turns = turns_of options script in Replays status script turns (replay_text script turns) output
+
+-- what an answer says of the replay of the script of n, of which the summary is written
+abbrev pub Generates : Status → ℕ → Options → Output → Type 0
+Generates status n options output = let turns = turns_of options (generated n) in Replays status (generated n) turns (gen_text n turns) output
 
 -- the answer that a text is no script for that fault, and its line
 abbrev pub AnswersBadScript : Status → FaultAt → Output → Type 0
@@ -93,40 +105,45 @@ Judges statuses.WriteFault script journal output = (ended : Ended) × IsLegal sc
 Judges statuses.NoMemory script journal output = Unit {0}
 Judges _ script journal output = ⊥
 
--- the script of a command's input: all of it, or what stands before the journal
-abbrev pub script_text : Command → List ℕ → List ℕ
+-- the script of an input that is read for that: all of it, or what stands before the journal
+abbrev pub script_text : Purpose → List ℕ → List ℕ
 script_text (Replay options) input = input
 script_text Check input = script_part input
 
--- the journal of a command's input, where the command takes one
-abbrev pub journal_text : Command → List ℕ → List ℕ
+-- the journal of such an input, where there is to be one
+abbrev pub journal_text : Purpose → List ℕ → List ℕ
 journal_text (Replay options) input = []
 journal_text Check input = journal_part input
 
--- what an answer of a command says of a script and of a journal
-abbrev pub AnswersScript : Command → Status → Script → List ℕ → Output → Type 0
-AnswersScript (Replay options) status script journal output = Replays status script (turns_of options script) output
+-- what an answer says of a script and of a journal that were read for that
+abbrev pub AnswersScript : Purpose → Status → Script → List ℕ → Output → Type 0
+AnswersScript (Replay options) status script journal output = Journals status options script output
 AnswersScript Check status script journal output = Judges status script journal output
 
 -- what an answer says of an input that was read whole: no script, for its first fault, or a script and what comes of it
-abbrev pub AnswersInput : Command → Status → List ℕ → Output → Type 0
-AnswersInput command statuses.BadScript input output = (fault : FaultAt) × (script_of (script_text command input) ≡ Err fault) × IsTold (bad_script_line fault) output
-AnswersInput command statuses.NoMemory input output = Unit {0}
-AnswersInput command status input output = (script : Script) × (script_of (script_text command input) ≡ Ok script) × AnswersScript command status script (journal_text command input) output
+abbrev pub AnswersInput : Purpose → Status → List ℕ → Output → Type 0
+AnswersInput purpose statuses.BadScript input output = (fault : FaultAt) × (script_of (script_text purpose input) ≡ Err fault) × IsTold (bad_script_line fault) output
+AnswersInput purpose statuses.NoMemory input output = Unit {0}
+AnswersInput purpose status input output = (script : Script) × (script_of (script_text purpose input) ≡ Ok script) × AnswersScript purpose status script (journal_text purpose input) output
 
--- the input was read to its end, within the command's limit and without a fault
-pub record IsWhole (command : Command) (bytes : List ℕ) (input : Input) : Type 0 where
+-- the input was read to its end, within its limit and without a fault
+pub record IsWhole (purpose : Purpose) (bytes : List ℕ) (input : Input) : Type 0 where
   pub at_end : IsAtEnd input.left
-  pub short : length bytes ≤ most_bytes command
+  pub short : length bytes ≤ most_bytes purpose
   pub no_fault : input.faults_after ≡ input.faults_before
 
--- what an answer says of the bytes that were read and of the outside, where the words ask for that command
+-- what an answer says of the bytes that were read for that, and of the outside
+abbrev pub AnswersRead : Purpose → Status → List ℕ → Input → Output → Type 0
+AnswersRead purpose statuses.Usage bytes input output = ⊥
+AnswersRead purpose statuses.ReadFault bytes input output = Rises input.faults_before input.faults_after × (length bytes ≤ most_bytes purpose) × IsTold read_fault_line output
+AnswersRead purpose statuses.TooLong bytes input output = (length bytes ≡ most_bytes purpose + 1) × (input.faults_after ≡ input.faults_before) × IsTold too_long_line output
+AnswersRead purpose statuses.NoMemory bytes input output = (length bytes ≤ most_bytes purpose + 1) × (input.faults_after ≡ input.faults_before)
+AnswersRead purpose status bytes input output = IsWhole purpose bytes input × AnswersInput purpose status bytes output
+
+-- what an answer says where the words ask for that: an input is read, or a script is made and nothing is read
 abbrev pub AnswersCommand : Command → Status → List ℕ → Input → Output → Type 0
-AnswersCommand command statuses.Usage bytes input output = ⊥
-AnswersCommand command statuses.ReadFault bytes input output = Rises input.faults_before input.faults_after × (length bytes ≤ most_bytes command) × IsTold read_fault_line output
-AnswersCommand command statuses.TooLong bytes input output = (length bytes ≡ most_bytes command + 1) × (input.faults_after ≡ input.faults_before) × IsTold too_long_line output
-AnswersCommand command statuses.NoMemory bytes input output = (length bytes ≤ most_bytes command + 1) × (input.faults_after ≡ input.faults_before)
-AnswersCommand command status bytes input output = IsWhole command bytes input × AnswersInput command status bytes output
+AnswersCommand (Read purpose) status bytes input output = AnswersRead purpose status bytes input output
+AnswersCommand (Gen n options) status bytes input output = (bytes ≡ []) × (input.faults_after ≡ input.faults_before) × Generates status n options output
 
 -- what an answer says where the words ask for that, or aren't taken
 abbrev pub Answers : Option Command → Status → List ℕ → Input → Output → Type 0

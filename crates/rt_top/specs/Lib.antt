@@ -3,6 +3,7 @@ pub mod Status
 pub mod Words
 pub mod Message
 pub mod Checked
+pub mod Summary
 pub mod Answer
 pub use Rattle.rt_base.specs.Outside
 pub use Rattle.rt_base.specs.Script
@@ -21,4 +22,6 @@ pub use Rattle.rt_events.specs.Entry
 pub use Rattle.rt_events.specs.Line
 pub use Rattle.rt_events.specs.Journal
 pub use Rattle.rt_core.specs.Report
+pub use Rattle.rt_policy.specs.Counts
+pub use Rattle.rt_policy.specs.Generator
 pub use Rattle.rt_policy.specs.Turns

@@ -1,46 +1,29 @@
 ghost use Rattle.std.specs.Prelude.{◌≡◌, ◌↔◌, codes, option_map, Some, IfOk, IfErr, IsTrue};
 ghost use Rattle.clap.specs.Words.{first_value, found_of, kind_of, one_text};
-ghost use Rattle.rt_top.specs.Words.{IsAccepted, IsSaid, bytes_of, command_of, most_bytes};
+ghost use Rattle.rt_top.specs.Words.{IsAccepted, IsSaid, bytes_of, command_of};
 
 use crate::options::Options;
+use crate::purpose::Purpose;
 use clap::error::ErrorKind;
 use clap::{Arg, ArgMatches, Error};
 use rt_base::NoMemory;
 use std::alloc::Global;
 
-/// The longest script, in bytes.
-const MAX_BYTES: u32 = 1_048_576;
-
-/// The longest script with a journal behind it, in bytes.
-const MAX_CHECK_BYTES: u32 = 67_108_864;
-
 /// What the words ask for.
 #[derive(Clone, Copy, Debug, PartialEq, Eq)]
 pub enum Command {
-    /// A script is to be replayed.
-    Replay(Options),
-    /// A journal is to be judged by the script before it.
-    Check,
-}
-
-impl Command {
-    /// The longest input that the command takes, in bytes.
-    pub fn most_bytes(self) -> u32
-        ensures { result ≡ most_bytes self }
-    {
-        match self {
-            Command::Replay(_) => MAX_BYTES,
-            Command::Check => MAX_CHECK_BYTES,
-        }
-    }
+    /// An input is to be read, for that.
+    Read(Purpose),
+    /// The script that the generator makes of a number is to be replayed, and its events counted.
+    Gen(u32, Options),
 }
 
 // The words as `clap` reads them.
 fn matches<'a>(alloc: Global, words: &'a [String]) -> Result<ArgMatches<'a>, Error>
     requires { IsAccepted (bytes_of words.now) }
     ensures said { IfOk result (λ found.
-        IsSaid (first_value (found_of found) (codes "command")) (one_text (found_of found) (codes "turns"))
-        (command_of (bytes_of words.now))) }
+        IsSaid (first_value (found_of found) (codes "command")) (one_text (found_of found) (codes "number"))
+        (one_text (found_of found) (codes "turns")) (command_of (bytes_of words.now))) }
     ensures err { IfErr result (λ e. kind_of e ≡ ErrorKind.OutOfMemory) }
 {
     let command = Arg::new(alloc, "command").required(true);
@@ -75,9 +58,13 @@ pub fn command_in(alloc: Global, words: &[String]) -> Result<Command, NoMemory>
         return Err(NoMemory);
     };
     if is_check(found.get_str("command")) {
-        return Ok(Command::Check);
+        return Ok(Command::Read(Purpose::Check));
     }
-    Ok(Command::Replay(Options {
+    let options = Options {
         turns: found.get_one("turns"),
-    }))
+    };
+    match found.get_one("number") {
+        Some(number) => Ok(Command::Gen(number, options)),
+        None => Ok(Command::Read(Purpose::Replay(options))),
+    }
 }

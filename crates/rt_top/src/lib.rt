@@ -6,12 +6,15 @@ mod checking;
 mod command;
 #[cfg(test)]
 mod fault_tests;
+mod generating;
 mod message;
 mod options;
+mod purpose;
 mod replaying;
 #[cfg(test)]
 mod row_tests;
 mod status;
+mod summary;
 #[cfg(test)]
 mod test_replays;
 mod top;

@@ -1,17 +1,19 @@
 ghost use Rattle.std.specs.Prelude.{◌≡◌, ◌≢◌, ◌↔◌, ◌≤◌, ℕ, List, length};
 ghost use Rattle.rt_base.specs.Outside.{Takes};
 ghost use Rattle.rt_base.specs.Script.{IsScript};
-ghost use Rattle.rt_top.specs.Words.{IsAccepted, bytes_of, command_of, most_bytes};
-ghost use Rattle.rt_top.specs.declared.command.TheConstants.{MAX_CHECK_BYTES};
-ghost use Rattle.rt_top.specs.Answer.{Answers, AnswersCommand, AnswersInput, AnswersScript, Replays, AnswersBadScript, input_of, journal_text, output_of, script_text, turns_of};
+ghost use Rattle.rt_top.specs.Words.{IsAccepted, IsGen, bytes_of, command_of, most_bytes};
+ghost use Rattle.rt_top.specs.declared.purpose.TheConstants.{MAX_CHECK_BYTES};
+ghost use Rattle.rt_top.specs.Answer.{Answers, AnswersBadScript, AnswersInput, AnswersRead, AnswersScript, Journals, input_of, journal_text, output_of, script_text};
 ghost use Rattle.rt_top.specs.Message.{fault_at};
 ghost use Rattle.rt_top.specs.Status.{status_number};
 ghost use Rattle.rt_top.specs.declared.status.Status.{Status};
 
 use crate::checking::{check_journal, parts};
 use crate::command::{Command, command_in};
+use crate::generating::generate_and_count;
 use crate::message::{bad_script, tell, tell_read_fault, tell_too_long, tell_usage};
-use crate::options::{MAX_TURNS, Options};
+use crate::options::{Options, turns};
+use crate::purpose::Purpose;
 use crate::replaying::print_replay;
 use crate::status::Status;
 use crate::words::is_accepted;
@@ -29,7 +31,9 @@ const BUFFER: usize = 64 * 1024;
 /// and then events in the stated order, at most as many as `--turns` says or else the budget, and writes
 /// journal and report. `check` reads a script and, behind its first line `go`, a journal with report, and
 /// writes whether that is one of a run of the script, and how the run ended, or else which line is the first
-/// wrong one, and why. Where neither is done, one line is written that says why.
+/// wrong one, and why. `gen` reads nothing: it makes the script of a number, replays it, and writes how many events
+/// of each kind there were, how many gave each reply, and how the run ended. Where nothing of that is done, one line
+/// is written that says why.
 pub fn rtlab<R: Threads + Sync, S: Source, K: Sink, T: Turnstile + Sync>(
     rt: &R,
     alloc: Global,
@@ -41,6 +45,9 @@ pub fn rtlab<R: Threads + Sync, S: Source, K: Sink, T: Turnstile + Sync>(
     // Words that aren't taken are refused before anything is read.
     ensures usage { (result ≡ 2) ↔ (IsAccepted (bytes_of words.now) → ⊥) }
     ensures unread { result ≡ 2 → src.new ≡ src.old }
+
+    // Nor is anything read for a script that the generator makes.
+    ensures made { IsGen (command_of (bytes_of words.now)) → src.new ≡ src.old }
 
     // One list of bytes stands for those that were read, and what the answer says is true of it.
     ensures outcome { (status : Status) × (bytes : List ℕ) × (result ≡ status_number status)
@@ -60,6 +67,7 @@ pub fn rtlab<R: Threads + Sync, S: Source, K: Sink, T: Turnstile + Sync>(
 fn answer<S: Source, K: Sink>(alloc: Global, words: &[String], src: &mut S, out: &mut K) -> Status
     ensures usage { (result ≡ Status.Usage) ↔ (IsAccepted (bytes_of words.now) → ⊥) }
     ensures unread { result ≡ Status.Usage → src.new ≡ src.old }
+    ensures made { IsGen (command_of (bytes_of words.now)) → src.new ≡ src.old }
     ensures outcome { (bytes : List ℕ)
         × Takes (S.left src.old) bytes (S.left src.new)
         × Answers (command_of (bytes_of words.now)) result bytes
@@ -73,29 +81,30 @@ fn answer<S: Source, K: Sink>(alloc: Global, words: &[String], src: &mut S, out:
         return Status::Usage;
     }
     match command_in(alloc, words) {
-        Ok(command) => answer_command(alloc, command, src, out),
+        Ok(Command::Read(purpose)) => answer_read(alloc, purpose, src, out),
+        Ok(Command::Gen(number, options)) => generate_and_count(alloc, number, options, out),
         Err(NoMemory) => Status::NoMemory,
     }
 }
 
-// Reads the input of a command, and answers it.
-fn answer_command<S: Source, K: Sink>(
+// Reads the input for that, and answers.
+fn answer_read<S: Source, K: Sink>(
     alloc: Global,
-    command: Command,
+    purpose: Purpose,
     src: &mut S,
     out: &mut K,
 ) -> Status
     ensures outcome { (bytes : List ℕ)
         × Takes (S.left src.old) bytes (S.left src.new)
-        × AnswersCommand command result bytes
+        × AnswersRead purpose result bytes
         (input_of S.left S.faults src.old src.new) (output_of K.held K.faults out.old out.new) }
     ensures unwritten { result ≡ Status.NoMemory → out.new ≡ out.old }
     ensures read_count { S.faults src.old ≤ S.faults src.new }
     ensures write_count { K.faults out.old ≤ K.faults out.new }
 {
     let mut bytes = Vec::new(alloc);
-    match read_whole(alloc, src, command.most_bytes(), &mut bytes) {
-        Ok(Taken::Whole) => answer_input(alloc, command, &bytes, out),
+    match read_whole(alloc, src, purpose.most_bytes(), &mut bytes) {
+        Ok(Taken::Whole) => answer_input(alloc, purpose, &bytes, out),
         Ok(Taken::Over) => {
             tell_too_long(out);
             Status::TooLong
@@ -108,52 +117,52 @@ fn answer_command<S: Source, K: Sink>(
     }
 }
 
-// What of a command's input is the script, and what the journal.
-fn parts_for(command: Command, input: &[u8]) -> (&[u8], &[u8])
-    ensures script { result.0.now ≡ script_text command input.now }
-    ensures journal { result.1.now ≡ journal_text command input.now }
+// What of an input that is read for that is the script, and what the journal.
+fn parts_for(purpose: Purpose, input: &[u8]) -> (&[u8], &[u8])
+    ensures script { result.0.now ≡ script_text purpose input.now }
+    ensures journal { result.1.now ≡ journal_text purpose input.now }
 {
-    match command {
-        Command::Replay(_) => (input, &[]),
-        Command::Check => parts(input),
+    match purpose {
+        Purpose::Replay(_) => (input, &[]),
+        Purpose::Check => parts(input),
     }
 }
 
-// Answers a command whose input these bytes are.
-fn answer_input<K: Sink>(alloc: Global, command: Command, bytes: &[u8], out: &mut K) -> Status
-    requires { length bytes.now ≤ most_bytes command }
-    ensures outcome { AnswersInput command result bytes.now (output_of K.held K.faults out.old out.new) }
+// Answers where these bytes were read.
+fn answer_input<K: Sink>(alloc: Global, purpose: Purpose, bytes: &[u8], out: &mut K) -> Status
+    requires { length bytes.now ≤ most_bytes purpose }
+    ensures outcome { AnswersInput purpose result bytes.now (output_of K.held K.faults out.old out.new) }
     ensures read { (result ≢ Status.Usage) × (result ≢ Status.ReadFault) × (result ≢ Status.TooLong) }
     ensures unwritten { result ≡ Status.NoMemory → out.new ≡ out.old }
     ensures write_count { K.faults out.old ≤ K.faults out.new }
 {
-    let (text, journal) = parts_for(command, bytes);
+    let (text, journal) = parts_for(purpose, bytes);
     match read_script(alloc, text) {
-        Ok(script) => answer_script(alloc, command, &script, journal, out),
+        Ok(script) => answer_script(alloc, purpose, &script, journal, out),
         Err(ScriptFault::At { line, why }) => answer_bad_script(alloc, line, why, out),
         Err(ScriptFault::Memory(_)) => Status::NoMemory,
     }
 }
 
-// Answers a command that has this script and this journal.
+// Answers where this script and this journal were read.
 fn answer_script<K: Sink>(
     alloc: Global,
-    command: Command,
+    purpose: Purpose,
     script: &Script,
     journal: &[u8],
     out: &mut K,
 ) -> Status
     requires valid { IsScript script.now }
     requires short { length journal.now ≤ MAX_CHECK_BYTES }
-    ensures outcome { AnswersScript command result script.now journal.now
+    ensures outcome { AnswersScript purpose result script.now journal.now
         (output_of K.held K.faults out.old out.new) }
     ensures read { (result ≢ Status.Usage) × (result ≢ Status.ReadFault) × (result ≢ Status.TooLong) }
     ensures unwritten { result ≡ Status.NoMemory → out.new ≡ out.old }
     ensures write_count { K.faults out.old ≤ K.faults out.new }
 {
-    match command {
-        Command::Replay(options) => replay_script(alloc, options, script, out),
-        Command::Check => check_journal(alloc, script, journal, out),
+    match purpose {
+        Purpose::Replay(options) => replay_script(alloc, options, script, out),
+        Purpose::Check => check_journal(alloc, script, journal, out),
     }
 }
 
@@ -171,23 +180,10 @@ fn answer_bad_script<K: Sink>(alloc: Global, line: u32, why: Why, out: &mut K) -
     Status::BadScript
 }
 
-// How many events are made after the picks at most.
-fn turns(options: Options, script: &Script) -> u64
-    requires { IsScript script.now }
-    ensures value { result ≡ turns_of options script.now }
-    ensures few { result ≤ MAX_TURNS }
-{
-    match options.turns {
-        Some(turns) => turns as u64,
-        None => script.budget(),
-    }
-}
-
 // Replays a script. All memory is taken before the first byte is written.
 fn replay_script<K: Sink>(alloc: Global, options: Options, script: &Script, out: &mut K) -> Status
     requires { IsScript script.now }
-    ensures outcome { Replays result script.now (turns_of options script.now)
-        (output_of K.held K.faults out.old out.new) }
+    ensures outcome { Journals result options script.now (output_of K.held K.faults out.old out.new) }
     ensures unwritten { result ≡ Status.NoMemory → out.new ≡ out.old }
     ensures write_count { K.faults out.old ≤ K.faults out.new }
 {

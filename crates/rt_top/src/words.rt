@@ -1,6 +1,6 @@
 ghost use Rattle.std.specs.Prelude.{◌≡◌, ◌↔◌, ◌<◌, length, is_some, slice_index, IsTrue};
 ghost use Rattle.rt_script.specs.Words.{number_upto};
-ghost use Rattle.rt_top.specs.Words.{bytes_of, command_named, command_of, options_after, with_option, no_options};
+ghost use Rattle.rt_top.specs.Words.{bytes_of, command_named, command_of, gen_of, options_after, with_option, no_options};
 
 use crate::options::MAX_TURNS;
 
@@ -50,14 +50,26 @@ fn are_options(words: &[String]) -> bool
     }
 }
 
-// Whether the command takes these options.
-fn takes(name: &str, options: &[String]) -> bool
-    ensures { result ≡ is_some (command_named name.now (bytes_of options.now)) }
+// Whether the words are a number and options.
+fn are_number_and_options(words: &[String]) -> bool
+    ensures { result ≡ is_some (gen_of (bytes_of words.now)) }
+{
+    match words {
+        [word, options @ ..] => number(word).is_some() && are_options(options),
+        [] => false,
+    }
+}
+
+// Whether the command takes these words.
+fn takes(name: &str, words: &[String]) -> bool
+    ensures { result ≡ is_some (command_named name.now (bytes_of words.now)) }
 {
     if name == "replay" {
-        are_options(options)
+        are_options(words)
+    } else if name == "gen" {
+        are_number_and_options(words)
     } else {
-        name == "check" && options.is_empty()
+        name == "check" && words.is_empty()
     }
 }
 

@@ -10,13 +10,15 @@ const USAGE: &str =
 #[test]
 fn words_that_are_taken(rt: HostRuntime) -> Result<(), Fail> {
     let alloc = rt.alloc();
-    let rows: [(&[&str], u8); 6] = [
+    let rows: [(&[&str], u8); 8] = [
         (&["check"], 10),
         (&["replay"], 0),
         (&["replay", "--turns", "0"], 5),
         (&["replay", "--turns", "1"], 5),
         (&["replay", "--turns", "2"], 0),
         (&["replay", "--turns", "4294967295"], 0),
+        (&["gen", "0", "--turns", "0"], 5),
+        (&["gen", "4294967295", "--turns", "1"], 5),
     ];
     for (texts, status) in rows {
         let mut src = source(alloc, ONE_MUTEX)?;
@@ -39,7 +41,7 @@ fn words_that_are_taken(rt: HostRuntime) -> Result<(), Fail> {
 #[test]
 fn words_that_are_not_taken(rt: HostRuntime) -> Result<(), Fail> {
     let alloc = rt.alloc();
-    let rows: [&[&str]; 37] = [
+    let rows: [&[&str]; 50] = [
         &[],
         &[""],
         &["replay", ""],
@@ -77,6 +79,19 @@ fn words_that_are_not_taken(rt: HostRuntime) -> Result<(), Fail> {
         &["check", "check"],
         &["check", "--turns", "3"],
         &["Check"],
+        &["gen"],
+        &["gen", ""],
+        &["gen", "x"],
+        &["gen", "01"],
+        &["gen", "+1"],
+        &["gen", "4294967296"],
+        &["gen", "1", "2"],
+        &["gen", "--turns", "1"],
+        &["gen", "--turns", "1", "1"],
+        &["gen", "1", "--turns"],
+        &["gen", "1", "--turns", "01"],
+        &["gen", "1", "--patience", "1"],
+        &["1", "gen"],
     ];
     for texts in rows {
         let mut src = MemSource::new(ONE_MUTEX.to_vec(alloc)?, [0].to_vec(alloc)?);

@@ -12,4 +12,4 @@ returns-in-Err-At-clause-outcome g c =
     let at_fault : script_of c.parts_for.result.0.now ≡ Err fault = subst (IsFaultOf (script_of c.parts_for.result.0.now)) c.in-Err-At.field-0-is c.in-Err-At.ensures.fault in
     let output : Output = output_of g.K.Sink.held g.K.Sink.faults c.args.out.now c.answer_bad_script.new.out in
     let told : AnswersBadScript c.answer_bad_script.result fault output = subst (λ (f : FaultAt). AnswersBadScript c.answer_bad_script.result f output) (λ i. fault_at (c.in-Err-At.line-is i) (c.in-Err-At.why-is i)) c.answer_bad_script.ensures.outcome in
-    refused c.args.command c.answer_bad_script.result c.args.bytes.now output fault (ap script_of (sym c.parts_for.ensures.script) ∙ at_fault) told
+    refused c.args.purpose c.answer_bad_script.result c.args.bytes.now output fault (ap script_of (sym c.parts_for.ensures.script) ∙ at_fault) told

@@ -41,8 +41,9 @@ fn lines_go_to_the_sink_together(rt: HostRuntime) -> Result<(), Fail> {
     // 90 KB of events go in two pieces, and the report in one.
     for (times, pieces) in [(1, 1), (2000, 2)] {
         let text = long_script(alloc, times)?;
-        let script = read_script(alloc, &text).ok().ok_or("no script")?;
-        let mut core = Core::new(alloc, &script).ok().ok_or("no memory")?;
+        assert!(rt; text.len() < 1_000_000);
+        let script = read_script(alloc, &text)?;
+        let mut core = Core::new(alloc, &script)?;
         let mut buf = Vec::with_capacity(alloc, 65_536)?;
         let mut out = CountingSink { pieces: 0 };
         let ended = finish(&mut core, &script, None, 5000, 1, &mut buf, &mut out);
